@@ -1,0 +1,5 @@
+pub mod Listed
+pub mod BitLemmas
+pub mod Sums
+pub mod Below
+pub mod Moduli
