@@ -1,0 +1,6 @@
+pub mod Causes
+pub mod Told
+pub mod Files
+pub mod MemoryShelf
+pub mod MemorySink
+pub mod Counts
