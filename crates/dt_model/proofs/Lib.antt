@@ -1,0 +1,9 @@
+pub mod PathSets
+pub mod Lanes
+pub mod Nodes
+pub mod Fitting
+pub mod Firsts
+pub mod NodeTells
+pub mod Compose
+pub mod Accepting
+pub mod Seeing

@@ -1,0 +1,20 @@
+use Rattle.std.proofs.Common.{ℕ, Option, refl, subst}
+use Rattle.dt_model.specs.declared.refusal.ModelRefusal.{ModelRefusal}
+use Rattle.dt_model.specs.declared.refusal.Place.TheVariants.{Input}
+use Rattle.dt_model.specs.Data.{data_of}
+use Rattle.dt_model.specs.Faults.{Breaks, names_of}
+use Rattle.dt_model.specs.First.{IsFirst}
+use Rattle.dt_model.proofs.Compose.{names_first, refused_at, passes_more}
+use Rattle.dt_model.proofs.declared.inputs_fault.Goals as goal
+
+pub returns-in-Some-clause-fault : goal.returns-in-Some-clause-fault
+returns-in-Some-clause-fault c =
+    let m = c.args.m.now in
+    let first : IsFirst (λ i. Breaks (data_of m) (Input i)) c.in_ok-i.field-0 = names_first 16 c.args.declared.now.keys (names_of m.regs) c.as_slice.result.now m.inputs c.in_ok-i.field-0 c.requires.named c.as_slice.ensures c.in_ok-i.ensures.fault in
+    refused_at (data_of m) 2 c.in-Some.i c.in-Some.refusal refl refl c.requires.regs (subst (λ (o : Option (ℕ × ModelRefusal)). IsFirst (λ i. Breaks (data_of m) (Input i)) o) c.in-Some.is first)
+
+pub returns-in-None-clause-fault : goal.returns-in-None-clause-fault
+returns-in-None-clause-fault c =
+    let m = c.args.m.now in
+    let first : IsFirst (λ i. Breaks (data_of m) (Input i)) c.in_ok-i.field-0 = names_first 16 c.args.declared.now.keys (names_of m.regs) c.as_slice.result.now m.inputs c.in_ok-i.field-0 c.requires.named c.as_slice.ensures c.in_ok-i.ensures.fault in
+    passes_more (data_of m) 2 c.requires.regs (subst (λ (o : Option (ℕ × ModelRefusal)). IsFirst (λ i. Breaks (data_of m) (Input i)) o) c.in-None.is first)

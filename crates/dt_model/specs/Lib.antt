@@ -1,0 +1,15 @@
+pub mod Sets
+pub mod Data
+pub mod Paths
+pub mod Flow
+pub mod Widths
+pub mod Scopes
+pub mod Limits
+pub mod Faults
+pub mod Arities
+pub mod First
+pub mod Marks
+pub mod Accepted
+pub mod Values
+pub mod Seen
+pub mod Refusing

@@ -1,0 +1,9 @@
+pub mod Levels
+pub mod Positions
+pub mod FirstNames
+pub mod Whole
+pub mod Arities
+pub mod Again
+pub mod Spelled
+pub mod NodesNamed
+pub mod Refusals

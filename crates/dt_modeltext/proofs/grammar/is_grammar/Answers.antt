@@ -1,0 +1,8 @@
+use Rattle.dt_modeltext.proofs.Again.{expr_again, expr_takes}
+use Rattle.dt_modeltext.proofs.grammar.is_grammar.Goals as goal
+
+pub returns-clause-only : goal.returns-clause-only
+returns-clause-only c = λ s most ts rest e h. let t = expr_takes s most ts (e, rest) h in (t.front, t.parts, t.spelled)
+
+pub returns-clause-all : goal.returns-clause-all
+returns-clause-all c = λ s most ts rest e h le. expr_again s most e ts rest h le

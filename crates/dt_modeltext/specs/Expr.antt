@@ -1,0 +1,152 @@
+-- Expressions as tokens: a name, a constant W:N, or an operator and its operands in parentheses.
+use Rattle.std.specs.Prelude.{ℕ, zero, suc, ◌-◌, ◌^◌, ◌==◌, Bool, nat_lt, List, [], ◌∷◌, Option, Some, None, position, codes, if◌then◌else◌}
+use Rattle.std.specs.List.{before_first, after_first}
+use Rattle.std.specs.Option.{option_map, option_map_or}
+use Rattle.std.specs.Str.{bytes_eq}
+use Rattle.dt_bits.specs.declared.op.Op.{Op}
+use Rattle.dt_bits.specs.declared.op.Op.TheVariants.{Add, Slice, Concat, Eq}
+use Rattle.dt_bits.specs.Ops.{arity_of}
+use Rattle.dt_lex.specs.declared.name.Name.{Name}
+use Rattle.dt_lex.specs.Names.{name_of, same_name}
+use Rattle.dt_lex.specs.Numeral.{is_hex, number_of}
+use Rattle.dt_model.specs.declared.model.Named.{Named}
+use Rattle.dt_model.specs.Data.{Tree, value, reg, input, var, apply1, apply2, apply3}
+use Rattle.dt_model.specs.Widths.{Scope}
+
+infixl 10 ◌>>=◌
+abbrev pub ◌>>=◌ : {A B : Type 0} → Option A → (A → Option B) → Option B
+None >>= f = None
+(Some x) >>= f = f x
+
+-- ---- one token
+
+-- a number below 2 ^ 32
+abbrev pub below_32 : ℕ → Option ℕ
+below_32 n = if nat_lt n (2 ^ 32) then Some n else None
+
+unfoldable pub small_of : List ℕ → Option ℕ
+small_of t = number_of t >>= below_32
+
+-- such a number in decimal digits
+unfoldable pub decimal_of : List ℕ → Option ℕ
+decimal_of t = if is_hex t then None else small_of t
+
+abbrev pub is_colon : ℕ → Bool
+is_colon b = b == 58
+
+-- a width, a colon and a number
+unfoldable pub constant_of : List ℕ → Option Tree
+constant_of t = do
+  width ← decimal_of (before_first is_colon t)
+  bits ← number_of (after_first is_colon t)
+  Some (value width bits)
+
+-- the position of what isn't declared
+abbrev pub unknown : ℕ
+unknown = 2 ^ 32 - 1
+
+-- the first of the names that is this one
+abbrev pub position_of : List Named → Name → Option ℕ
+position_of names n = position (λ m. same_name m.name n) names
+
+-- a register, else an input, else a variable; a name that isn't declared is read as the register at no position
+unfoldable pub named : Scope → Name → Tree
+named s n = option_map_or reg (position_of s.regs n) (option_map_or input (position_of s.inputs n) (option_map_or var (position_of s.vars n) (reg unknown)))
+
+-- a name, or else a constant
+abbrev pub named_or : Scope → Option Tree → Option Name → Option Tree
+named_or s other None = other
+named_or s other (Some n) = Some (named s n)
+
+unfoldable pub atom_of : Scope → List ℕ → Option Tree
+atom_of s t = named_or s (constant_of t) (name_of t)
+
+-- ---- tokens from the front
+
+-- what the front of some tokens spells, and the tokens after it
+abbrev pub Read : Type 0 → Type 0
+Read X = Option (X × List (List ℕ))
+
+-- the first token, as f sees it
+abbrev pub first_by : {X : Type 0} → (List ℕ → Option X) → List (List ℕ) → Read X
+first_by f [] = None
+first_by f (t ∷ ts) = option_map (λ x. (x, ts)) (f t)
+
+abbrev pub small_at : List (List ℕ) → Read ℕ
+small_at ts = first_by small_of ts
+
+abbrev pub name_at : List (List ℕ) → Read Name
+name_at ts = first_by name_of ts
+
+abbrev pub is_open : List ℕ → Bool
+is_open t = bytes_eq t (codes "(")
+
+-- the tokens after a closing parenthesis
+abbrev pub closing : List (List ℕ) → Option (List (List ℕ))
+closing [] = None
+closing (t ∷ ts) = if bytes_eq t (codes ")") then Some ts else None
+
+abbrev pub closed : Tree → List (List ℕ) → Read Tree
+closed e ts = closing ts >>= λ us. Some (e, us)
+
+-- the two numbers of a slice
+unfoldable pub slice_at : List (List ℕ) → Read Op
+slice_at ts = do
+  hi ← small_at ts
+  lo ← small_at hi.1
+  Some (Slice hi.0 lo.0, lo.1)
+
+-- an operator, with its numbers
+unfoldable pub operator_at : List (List ℕ) → Read Op
+operator_at [] = None
+operator_at (t ∷ ts) =
+    if bytes_eq t (codes "add") then Some (Add, ts)
+    else (if bytes_eq t (codes "slice") then slice_at ts
+    else (if bytes_eq t (codes "concat") then Some (Concat, ts)
+    else (if bytes_eq t (codes "eq") then Some (Eq, ts)
+    else None)))
+
+-- ---- operands, each of which is read by part, and the closing parenthesis
+
+unfoldable pub one_at : (List (List ℕ) → Read Tree) → Op → List (List ℕ) → Read Tree
+one_at part op ts = do
+  a ← part ts
+  closed (apply1 op a.0) a.1
+
+unfoldable pub two_at : (List (List ℕ) → Read Tree) → Op → List (List ℕ) → Read Tree
+two_at part op ts = do
+  a ← part ts
+  b ← part a.1
+  closed (apply2 op a.0 b.0) b.1
+
+unfoldable pub three_at : (List (List ℕ) → Read Tree) → Op → List (List ℕ) → Read Tree
+three_at part op ts = do
+  a ← part ts
+  b ← part a.1
+  c ← part b.1
+  closed (apply3 op a.0 b.0 c.0) c.1
+
+-- as many operands as the operator takes
+unfoldable pub operands_at : (List (List ℕ) → Read Tree) → Op → List (List ℕ) → Read Tree
+operands_at part op ts =
+    if arity_of op == 1 then one_at part op ts
+    else (if arity_of op == 2 then two_at part op ts
+    else (if arity_of op == 3 then three_at part op ts
+    else None))
+
+-- what stands after an opening parenthesis
+unfoldable pub applied_at : (List (List ℕ) → Read Tree) → List (List ℕ) → Read Tree
+applied_at part ts = do
+  op ← operator_at ts
+  operands_at part op.0 op.1
+
+-- ---- expressions
+
+unfoldable pub level : Scope → (List (List ℕ) → Read Tree) → List (List ℕ) → Read Tree
+level s part [] = None
+level s part (t ∷ ts) = if is_open t then applied_at part ts else first_by (atom_of s) (t ∷ ts)
+
+-- an expression of names in scope, with at most so many operators on one way from its root
+unfoldable pub expr_at : Scope → ℕ → List (List ℕ) → Read Tree
+expr_at s zero = first_by (atom_of s)
+expr_at s (suc depth) = level s (expr_at s depth)

@@ -1,0 +1,185 @@
+ghost use Rattle.std.specs.Prelude.{◌≡◌, ◌==◌, ◌<◌, ◌^◌, Some, None, length, not, position};
+ghost use Rattle.std.specs.List.{before_first, after_first};
+ghost use Rattle.std.specs.Option.{option_map};
+ghost use Rattle.dt_lex.specs.Text.{tokens_of};
+ghost use Rattle.dt_lex.specs.Names.{same_name};
+ghost use Rattle.dt_model.specs.Data.{tree_of};
+ghost use Rattle.dt_modeltext.specs.Expr.{small_of, decimal_of, is_colon, constant_of, position_of, named, atom_of, small_at, name_at, closing};
+ghost use Rattle.dt_modeltext.specs.Line.{target, variable};
+ghost use Rattle.dt_modeltext.specs.Code.{scope_of};
+
+use crate::known::Known;
+use dt_lex::{Name, next_token, number};
+use dt_model::{Expr, Named};
+
+/// The position of what isn't declared.
+const UNKNOWN: u32 = u32::MAX;
+
+#[tactic(auto, unfolding(crate::specs::Expr::small_of))]
+fn small(token: &[u8]) -> Option<u32>
+    ensures { result ≡ small_of token.now }
+{
+    match number(token) {
+        None => None,
+        Some(n) => { if n < 1 << 32 { Some(n as u32) } else { None } }
+    }
+}
+
+#[tactic(auto, unfolding(crate::specs::Expr::decimal_of))]
+fn decimal(token: &[u8]) -> Option<u32>
+    ensures { result ≡ decimal_of token.now }
+{
+    if let [b'0', b'x', ..] = token {
+        return None;
+    }
+    small(token)
+}
+
+fn colon(token: &[u8]) -> Option<usize>
+    ensures { result ≡ position is_colon token.now }
+{
+    token.iter().position(|b| *b == b':')
+}
+
+/// What stands before the first colon, and after it.
+#[tactic(auto, using(crate::proofs::Positions::before_none, crate::proofs::Positions::after_none, crate::proofs::Positions::before_some, crate::proofs::Positions::after_some, crate::proofs::Positions::position_below, std::proofs::lemmas::List::take_rest))]
+fn at_colon(token: &[u8]) -> (&[u8], &[u8])
+    ensures before { result.0.now ≡ before_first is_colon token.now }
+    ensures after { result.1.now ≡ after_first is_colon token.now }
+{
+    match colon(token) {
+        None => (token, b"".as_slice()),
+        Some(i) => (&token[..i], &token[i + 1..]),
+    }
+}
+
+/// The constant that a token spells.
+#[tactic(auto, unfolding(crate::specs::Expr::constant_of))]
+fn constant(token: &[u8]) -> Option<Expr>
+    ensures { option_map tree_of result ≡ constant_of token.now }
+{
+    let (before, after) = at_colon(token);
+    match decimal(before) {
+        None => None,
+        Some(width) => match number(after) {
+            None => None,
+            Some(bits) => Some(Expr::Value { width, bits }),
+        },
+    }
+}
+
+fn place_of(names: &[Named], name: &Name) -> Option<usize>
+    ensures { result ≡ position_of names.now name.now }
+{
+    names.iter().position(|n| n.name == *name)
+}
+
+/// The position of the first of the names that is this one.
+#[tactic(auto, using(crate::proofs::Positions::position_below))]
+fn position_of(names: &[Named], name: &Name) -> Option<u32>
+    requires { length names.now < 2 ^ 32 }
+    ensures { result ≡ position_of names.now name.now }
+{
+    match place_of(names, name) {
+        None => None,
+        Some(i) => Some(i as u32),
+    }
+}
+
+fn node_place(nodes: &[Name], name: &Name) -> Option<usize>
+    ensures { result ≡ position (λ m. same_name m name.now) nodes.now }
+{
+    nodes.iter().position(|n| n == name)
+}
+
+/// The position of the first node of this name.
+#[tactic(auto, unfolding(crate::specs::Line::target), using(crate::proofs::Positions::position_below))]
+pub fn target(known: &Known, name: &Name) -> u32
+    ensures { result ≡ target known.now.nodes.now name.now }
+{
+    match node_place(known.nodes, name) {
+        None => UNKNOWN,
+        Some(i) => i as u32,
+    }
+}
+
+/// The position of a variable.
+#[tactic(auto, unfolding(crate::specs::Line::variable))]
+pub fn variable(known: &Known, name: &Name) -> u32
+    ensures { result ≡ variable (scope_of known.now) name.now }
+{
+    match position_of(known.vars, name) {
+        None => UNKNOWN,
+        Some(i) => i,
+    }
+}
+
+/// What a name in an expression stands for.
+#[tactic(auto, unfolding(crate::specs::Expr::named))]
+fn named(known: &Known, name: &Name) -> Expr
+    ensures { tree_of result ≡ named (scope_of known.now) name.now }
+{
+    match position_of(known.regs, name) {
+        Some(i) => Expr::Reg(i),
+        None => match position_of(known.inputs, name) {
+            Some(i) => Expr::Input(i),
+            None => match position_of(known.vars, name) {
+                Some(i) => Expr::Var(i),
+                None => Expr::Reg(UNKNOWN),
+            },
+        },
+    }
+}
+
+/// The name or the constant that a token spells.
+#[tactic(auto, unfolding(crate::specs::Expr::atom_of))]
+pub fn atom(known: &Known, token: &[u8]) -> Option<Expr>
+    ensures { option_map tree_of result ≡ atom_of (scope_of known.now) token.now }
+{
+    match Name::read(token) {
+        Some(name) => Some(named(known, &name)),
+        None => constant(token),
+    }
+}
+
+/// The number below 2^32 at the front, and what stands after it.
+pub fn small_at(tokens: &[u8]) -> Option<(u32, &[u8])>
+    ensures { option_map (λ x. (x.0, tokens_of x.1.now)) result ≡ small_at (tokens_of tokens.now) }
+{
+    match next_token(tokens) {
+        None => None,
+        Some((token, rest)) => match small(token) {
+            None => None,
+            Some(n) => Some((n, rest)),
+        },
+    }
+}
+
+/// The name at the front, and what stands after it.
+pub fn name_at(tokens: &[u8]) -> Option<(Name, &[u8])>
+    ensures { option_map (λ x. (x.0, tokens_of x.1.now)) result ≡ name_at (tokens_of tokens.now) }
+{
+    match next_token(tokens) {
+        None => None,
+        Some((token, rest)) => match Name::read(token) {
+            None => None,
+            Some(name) => Some((name, rest)),
+        },
+    }
+}
+
+/// What stands after a closing parenthesis.
+pub fn after_close(tokens: &[u8]) -> Option<&[u8]>
+    ensures { option_map (λ x. tokens_of x.now) result ≡ closing (tokens_of tokens.now) }
+{
+    match next_token(tokens) {
+        None => None,
+        Some((token, rest)) => {
+            if token == b")".as_slice() {
+                Some(rest)
+            } else {
+                None
+            }
+        }
+    }
+}
