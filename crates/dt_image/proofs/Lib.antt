@@ -1,0 +1,9 @@
+pub mod Steps
+pub mod Blocks
+pub mod Whole
+pub mod Rising
+pub mod Widths
+pub mod Rows
+pub mod Runs
+pub mod Again
+pub mod Kept

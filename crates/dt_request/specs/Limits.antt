@@ -1,0 +1,12 @@
+-- How much a request list holds at most; codes have the limit of a model.
+use Rattle.std.specs.Prelude.{ℕ}
+
+abbrev pub most_contexts : ℕ
+most_contexts = 16
+
+abbrev pub most_accesses : ℕ
+most_accesses = 64
+
+-- of one access
+abbrev pub most_demands : ℕ
+most_demands = 64

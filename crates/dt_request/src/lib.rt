@@ -1,0 +1,28 @@
+//! Request lists: which accesses are wished for, what each must come to, and where tables may lie.
+//! A list names contexts and accesses; an access has a context and demands on the end of its walk.
+//! It is read for an accepted model, line by line, and refused by its first bad line.
+//!
+//! Proved: `read_requests` gives exactly the list that the text spells by `list_in` of
+//! `specs/Reading.antt`, or exactly its fault, or want of memory; what it gives is a list of the
+//! model (`IsList` of `specs/Lists.antt`): bounds in whole words within the addresses, at most 16
+//! contexts and 64 accesses with names of their own, at most 64 demands each, positions of declared
+//! contexts, and codes of at most 65535. `choice_count` and `choice_bits` are exactly the formulas
+//! of `specs/Choices.antt`, and take no memory.
+//!
+//! Only tested: that reading succeeds where there is memory.
+#![tactic(auto)]
+
+mod counting;
+mod draft;
+mod fault;
+mod judging;
+mod line;
+mod list;
+mod reading;
+#[cfg(test)]
+mod tests;
+
+pub use counting::{choice_bits, choice_count};
+pub use fault::RequestFault;
+pub use list::{AccessWish, Demand, Requests};
+pub use reading::read_requests;
