@@ -1,0 +1,5 @@
+pub mod Powers
+pub mod Pushed
+pub mod Places
+pub mod Counts
+pub mod Verdicts

@@ -1,0 +1,6 @@
+use Rattle.std.proofs.Common.{sym, arith}
+use Rattle.dt_satisfy.proofs.Powers.{quotient_zero}
+use Rattle.dt_satisfy.proofs.block.quotient.Goals as goal
+
+pub returns-else-exponent-lt128 : goal.returns-else-exponent-lt128
+returns-else-exponent-lt128 c = sym (quotient_zero c.args.address c.args.exponent (omega (arith, c.ranges.address)) c.if-exponent-lt128.false)
