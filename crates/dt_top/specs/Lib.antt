@@ -1,0 +1,12 @@
+pub mod Words
+pub mod Asked
+pub mod Zeros
+pub mod Record
+pub mod Solved
+pub mod Answers
+pub mod Table
+pub mod Refusals
+pub mod Due
+pub mod Headline
+pub mod Pieces
+pub mod Code
