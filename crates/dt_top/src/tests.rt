@@ -1,4 +1,5 @@
 // The commands over files in memory.
+use crate::in_memory::run_in_memory;
 use crate::program::run;
 use crate::status::Status;
 use dt_edge::{MemoryShelf, MemorySink};
@@ -199,6 +200,23 @@ fn each_refusal(rt: HostRuntime) -> Result<(), Fail> {
     for case in refused() {
         comes(&rt, rt.alloc(), case)?;
     }
+    Ok(())
+}
+
+#[test]
+fn nothing_fails_over_memory(rt: HostRuntime) -> Result<(), Fail> {
+    let alloc = rt.alloc();
+    let words = owned(alloc, &["solve", "t1", "empty", "0", "1"])?;
+    let mut shelf = MemoryShelf::new(alloc, &[])?;
+    shelf.put("t1", T1.as_bytes())?;
+    shelf.put("empty", EMPTY.as_bytes())?;
+    let mut sink = MemorySink::new(alloc, 100, &[])?;
+    let came = run_in_memory(alloc, words.as_slice(), &mut shelf, &mut sink);
+    assert_eq!(rt; came, Status::Good);
+    assert_eq!(rt;
+        sink.written(),
+        "image 1\ntables 0x1000 0x2000\nend\n".as_bytes()
+    );
     Ok(())
 }
 
