@@ -2,19 +2,7 @@ ghost use Rattle.std.specs.Prelude.{◌≡◌, ◌+◌, ◌-◌, ◌*◌, ◌/�
 ghost use Rattle.dt_bits.specs.Bits.{IsWidth, IsValue};
 ghost use Rattle.dt_bits.specs.Ops.{IsOp, applied, fits_at};
 
-use crate::{Bv, Op, Width};
-
-// The largest number of a width.
-fn ones(width: u32) -> u128
-    requires { IsWidth width }
-    ensures { result ≡ 2 ^ width - 1 }
-{
-    if width == 128 {
-        u128::MAX
-    } else {
-        (1 << width) - 1
-    }
-}
+use crate::{Bv, Op, Width, ones};
 
 // Each bit turned.
 fn complement(width: u32, a: u128) -> u128
@@ -22,7 +10,7 @@ fn complement(width: u32, a: u128) -> u128
     requires a { a < 2 ^ width }
     ensures { result ≡ 2 ^ width - 1 - a }
 {
-    ones(width) - a
+    ones(Width(width)) - a
 }
 
 // The sum, of which what lies above the width is dropped.
@@ -32,7 +20,7 @@ fn sum(width: u32, a: u128, b: u128) -> u128
     requires b { b < 2 ^ width }
     ensures { result ≡ (a + b) % 2 ^ width }
 {
-    let room = ones(width) - a;
+    let room = ones(Width(width)) - a;
     if b <= room { a + b } else { b - room - 1 }
 }
 
@@ -46,7 +34,7 @@ fn difference(width: u32, a: u128, b: u128) -> u128
     if b <= a {
         a - b
     } else {
-        ones(width) - (b - a - 1)
+        ones(Width(width)) - (b - a - 1)
     }
 }
 
@@ -56,7 +44,7 @@ fn part(a: u128, hi: u32, lo: u32) -> u128
     requires range { hi < 128 }
     ensures { result ≡ a / 2 ^ lo % 2 ^ (hi - lo + 1) }
 {
-    (a >> lo) & ones(hi - lo + 1)
+    (a >> lo) & ones(Width(hi - lo + 1))
 }
 
 // The bits that are 1 in one or both.
@@ -102,7 +90,7 @@ fn extended(width: u32, a: u128, to: u32) -> u128
     ensures range { result < 2 ^ to }
 {
     if a >= 1 << (width - 1) {
-        a + (ones(to) - ones(width))
+        a + (ones(Width(to)) - ones(Width(width)))
     } else {
         a
     }
@@ -114,7 +102,7 @@ fn shifted_left(width: u32, a: u128, by: u32) -> u128
     requires by { by < width }
     ensures { result ≡ a * 2 ^ by % 2 ^ width }
 {
-    (a << by) & ones(width)
+    (a << by) & ones(Width(width))
 }
 
 // One bit that says whether something holds.

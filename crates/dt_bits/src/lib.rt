@@ -28,4 +28,4 @@ pub use memory::{TableMemory, Word};
 pub use no_memory::NoMemory;
 pub use op::Op;
 pub use seq::Seq;
-pub use value::{Bv, Width, bit_of};
+pub use value::{Bv, Width, bit_of, low_ones, ones};

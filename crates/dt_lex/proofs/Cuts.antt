@@ -44,10 +44,10 @@ lines_past (suc n) (b ∷ bs) h = lines_past n bs (omega arith)
 pub word_parts : (b : ℕ) → is_word b ≡ true → (eqb b 35 ≡ false) × (is_blank b ≡ false)
 word_parts b h = grind arith
 
-third : {X : Type 0} (p q r : Bool) (x y z w : X) → p ≡ false → q ≡ false → r ≡ true → cond p x (cond q y (cond r z w)) ≡ z
+pub third : {X : Type 0} (p q r : Bool) (x y z w : X) → p ≡ false → q ≡ false → r ≡ true → cond p x (cond q y (cond r z w)) ≡ z
 third p q r x y z w hp hq hr = rw (hp, hq, hr) refl
 
-fourth : {X : Type 0} (p q r : Bool) (x y z w : X) → p ≡ false → q ≡ false → r ≡ false → cond p x (cond q y (cond r z w)) ≡ w
+pub fourth : {X : Type 0} (p q r : Bool) (x y z w : X) → p ≡ false → q ≡ false → r ≡ false → cond p x (cond q y (cond r z w)) ≡ w
 fourth p q r x y z w hp hq hr = rw (hp, hq, hr) refl
 
 pub word_alone : (b : ℕ) (bs : List ℕ) → is_word b ≡ true → begins_word bs ≡ false → tokens_of (b ∷ bs) ≡ (b ∷ []) ∷ tokens_of bs
@@ -65,10 +65,10 @@ word_joined b bs h more =
 abbrev pub word_at : List ℕ → ℕ
 word_at bs = prefix_len is_word bs
 
-more_at : (b : ℕ) (bs : List ℕ) → is_word b ≡ true → word_at (b ∷ bs) ≡ suc (word_at bs)
+pub more_at : (b : ℕ) (bs : List ℕ) → is_word b ≡ true → word_at (b ∷ bs) ≡ suc (word_at bs)
 more_at b bs h = cond-true (is_word b) (1 + word_at bs) 0 h ∙ one_more (word_at bs)
 
-none_at : (b : ℕ) (bs : List ℕ) → is_word b ≡ false → word_at (b ∷ bs) ≡ zero
+pub none_at : (b : ℕ) (bs : List ℕ) → is_word b ≡ false → word_at (b ∷ bs) ≡ zero
 none_at b bs h = cond-false (is_word b) (1 + word_at bs) 0 h
 
 abbrev Cut : ℕ → List ℕ → ℕ → Type 0

@@ -10,11 +10,30 @@
 -- left the text's value is what `finish` makes of d.
 use Rattle.std.proofs.Common.{◌≡◌, ◌≤◌, Bool, true, false, ℕ, ◌+◌, List, [], ◌∷◌, ◌++◌, length, subst, arith, Option, Some, None, Result, Ok, Err, refl, sym, ap, ◌∙◌}
 use Rattle.std.specs.Bool.{OnFalse}
+use Rattle.std.specs.List.{flat_map}
 use Rattle.std.specs.Option.{option_to_list}
 use Rattle.std.proofs.lemmas.List.{append-nil}
+use Rattle.std.proofs.lemmas.List.Concat.{flat_map-append}
 use Rattle.dt_lex.specs.Text.{lines_of}
-use Rattle.dt_lex.specs.Reading.{Grammar, Gives, grow, ◌>>=◌, line_entry, line_added, entries_from, reading_of}
+use Rattle.dt_lex.specs.Reading.{last_of, Grammar, Gives, grow, ◌>>=◌, line_entry, line_added, entries_from, reading_of}
 use Rattle.dt_lex.proofs.Cuts.{length-lines_of-le}
+
+-- ---- what one more entry at the end declares
+
+pub last_append : {X : Type 0} (d : X) (xs ys : List X) → last_of d (xs ++ ys) ≡ last_of (last_of d xs) ys
+last_append d [] ys = refl
+last_append d (x ∷ xs) ys = last_append x xs ys
+
+pub last_push : {X : Type 0} (d : X) (xs : List X) (x : X) → last_of d (xs ++ x ∷ []) ≡ x
+last_push d xs x = last_append d xs (x ∷ [])
+
+pub one_more : {E A : Type 0} (f : E → List A) (es : List E) (e : E) (x : A) → f e ≡ x ∷ [] → flat_map f (es ++ e ∷ []) ≡ flat_map f es ++ x ∷ []
+one_more {A = A} f es e x is = flat_map-append f es (e ∷ []) ∙ ap (λ (xs : List A). flat_map f es ++ xs) (append-nil (f e) ∙ is)
+
+pub no_more : {E A : Type 0} (f : E → List A) (es : List E) (e : E) → f e ≡ [] → flat_map f (es ++ e ∷ []) ≡ flat_map f es
+no_more {A = A} f es e none = flat_map-append f es (e ∷ []) ∙ ap (λ (xs : List A). flat_map f es ++ xs) (append-nil (f e) ∙ none) ∙ append-nil (flat_map f es)
+
+-- ---- the loop
 
 unfoldable pub run_from : {E D F : Type 0} → Grammar E D F → (D → E → D) → ℕ → D → List (List ℕ) → Result D F
 run_from g add n d [] = Ok d

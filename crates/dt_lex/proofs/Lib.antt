@@ -2,6 +2,8 @@ pub mod Cuts
 pub mod Numbers
 pub mod Folds
 pub mod Printed
+pub mod Pieces
 pub mod Places
 pub mod Spanned
+pub mod Located
 pub mod Padded

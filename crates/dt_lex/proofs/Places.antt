@@ -7,7 +7,7 @@ use Rattle.std.proofs.lemmas.Bool.{and_from, not_from_false, ne_eqb, cond-true}
 use Rattle.dt_lex.specs.Text.{tokens_of, is_blank, is_paren, is_word}
 use Rattle.dt_lex.proofs.Cuts.{at_comment, at_blank, at_paren, at_word, tokens_nil}
 
-first_is : (line : List ℕ) (i : ℕ) → get_or (drop i line) 0 0 ≡ get_or line i 0
+pub first_is : (line : List ℕ) (i : ℕ) → get_or (drop i line) 0 0 ≡ get_or line i 0
 first_is line i = get_or-drop i line 0 0 ∙ ap (λ (k : ℕ). get_or line k 0) (add-zero i)
 
 pub comment_at : (line : List ℕ) (i : ℕ) → i < length line → get_or line i 0 ≡ 35 → tokens_of (drop i line) ≡ []
@@ -24,7 +24,7 @@ cut_at line i n e is h =
 pub paren_at : (line : List ℕ) (i : ℕ) → i < length line → is_paren (get_or line i 0) ≡ true → tokens_of (drop i line) ≡ slice_range line i (i + 1) ∷ tokens_of (drop (i + 1) line)
 paren_at line i lt h = cut_at line i 1 (i + 1) refl (at_paren (drop i line) (ap is_paren (first_is line i) ∙ h))
 
-word_is : (b : ℕ) → (b ≡ 35 → ⊥) → is_paren b ≡ false → is_blank b ≡ false → is_word b ≡ true
+pub word_is : (b : ℕ) → (b ≡ 35 → ⊥) → is_paren b ≡ false → is_blank b ≡ false → is_word b ≡ true
 word_is b h1 h2 h3 = and_from (not (is_blank b) && not (is_paren b)) (not (eqb b 35)) (and_from (not (is_blank b)) (not (is_paren b)) (not_from_false _ h3) (not_from_false _ h2)) (not_from_false _ (ne_eqb b 35 h1))
 
 positive : (bs : List ℕ) → 0 < length bs → is_word (get_or bs 0 0) ≡ true → 0 < prefix_len is_word bs

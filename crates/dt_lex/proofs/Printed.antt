@@ -52,7 +52,7 @@ tokens_body (t ∷ ts) h =
 
 -- ---- bytes
 
-good_then : (t rest : List ℕ) → all_plain t ≡ true → has_bad_byte (t ++ rest) ≡ has_bad_byte rest
+pub good_then : (t rest : List ℕ) → all_plain t ≡ true → has_bad_byte (t ++ rest) ≡ has_bad_byte rest
 unfolding has_bad_byte
 good_then [] rest plain = refl
 good_then (b ∷ bs) rest plain =
@@ -72,14 +72,14 @@ good_body (t ∷ ts) h = good_then t (spaced ts) h.0.plain ∙ good_spaced ts h.
 
 -- ---- lines
 
-abbrev HasNoFeed : List ℕ → Type 0
+abbrev pub HasNoFeed : List ℕ → Type 0
 HasNoFeed bs = AllByRecursion (λ b. eqb b 10 ≡ false) bs
 
-no_feed_append : (xs bs : List ℕ) → HasNoFeed xs → HasNoFeed bs → HasNoFeed (xs ++ bs)
+pub no_feed_append : (xs bs : List ℕ) → HasNoFeed xs → HasNoFeed bs → HasNoFeed (xs ++ bs)
 no_feed_append [] bs p q = q
 no_feed_append (x ∷ xs) bs p q = (p.0, no_feed_append xs bs p.1 q)
 
-no_feed_plain : (t : List ℕ) → all_plain t ≡ true → HasNoFeed t
+pub no_feed_plain : (t : List ℕ) → all_plain t ≡ true → HasNoFeed t
 no_feed_plain [] h = tt
 no_feed_plain (b ∷ bs) h =
     let p = and_parts (is_plain b) (all_plain bs) h in
@@ -99,11 +99,45 @@ line_then [] rest h = refl
 line_then (b ∷ bs) rest h =
     cond-false (eqb b 10) ([] ∷ lines_of (bs ++ 10 ∷ rest)) (put_front b (lines_of (bs ++ 10 ∷ rest))) h.0 ∙ ap (put_front b) (line_then bs rest h.1)
 
-pub lines_text : (rows : List (List (List ℕ))) → AllByRecursion IsRow rows → lines_of (text_of rows) ≡ map body_of rows
+-- no body of these rows has a line feed
+abbrev pub HaveNoFeed : List (List (List ℕ)) → Type 0
+HaveNoFeed rows = AllByRecursion (λ row. HasNoFeed (body_of row)) rows
+
+pub lines_text : (rows : List (List (List ℕ))) → HaveNoFeed rows → lines_of (text_of rows) ≡ map body_of rows
 unfolding lines_of
 lines_text [] h = refl
 lines_text (row ∷ rows) h =
-    ap lines_of (append_assoc (body_of row) (10 ∷ []) (text_of rows)) ∙ line_then (body_of row) (text_of rows) (no_feed_body row h.0.words) ∙ ap (λ (ls : List (List ℕ)). body_of row ∷ ls) (lines_text rows h.1)
+    ap lines_of (append_assoc (body_of row) (10 ∷ []) (text_of rows)) ∙ line_then (body_of row) (text_of rows) h.0 ∙ ap (λ (ls : List (List ℕ)). body_of row ∷ ls) (lines_text rows h.1)
+
+-- ---- reading lines by their tokens
+
+-- the bytes are a line of these tokens
+pub record IsLine (body : List ℕ) (row : List (List ℕ)) : Type 0 where
+  pub tokens : tokens_of body ≡ row
+  pub good : has_bad_byte body ≡ false
+  pub no_feed : HasNoFeed body
+  pub short : length body ≤ 16384
+
+faultless : (n : ℕ) (body : List ℕ) (row : List (List ℕ)) → IsLine body row → fault_of n body ≡ None
+faultless n body row h =
+    cond-false (ltb 16384 (length body)) _ _ (le-ltb 16384 (length body) h.short) ∙ cond-false (has_bad_byte body) _ _ h.good
+
+-- such a line is read as its tokens are
+pub line_is_row : {E D F : Type 0} (g : Grammar E D F) (n : ℕ) (d : D) (body : List ℕ) (row : List (List ℕ)) → IsLine body row → line_entry g n d body ≡ row_entry g n d row
+unfolding line_entry
+line_is_row g n d body row h =
+    ap (λ (o : Option LexFault). unless_faulty g.lexical o (row_entry g n d (tokens_of body))) (faultless n body row h) ∙ ap (row_entry g n d) h.tokens
+
+length_bodies : (rows : List (List (List ℕ))) → length (map body_of rows) ≡ length rows
+length_bodies rows = length-map rows body_of
+
+-- a printed text is read line by line
+pub reading_lines : {E D V F : Type 0} (g : Grammar E D F) (add : D → E → D) (finish : ℕ → D → Result V F) (rows : List (List (List ℕ))) (d : D) → AddsUp g add → HaveNoFeed rows → run_from g add 1 (g.declared []) (map body_of rows) ≡ Ok d → reading_of g finish (text_of rows) ≡ finish (length rows + 1) d
+reading_lines {D = D} {F = F} g add finish rows d law are h =
+    let lines = lines_text rows are in
+    let count : length (lines_of (text_of rows)) ≡ length rows = ap length lines ∙ length_bodies rows in
+    let run : run_from g add 1 (g.declared []) (lines_of (text_of rows)) ≡ Ok d = ap (run_from g add 1 (g.declared [])) lines ∙ h in
+    reading_run g add finish (text_of rows) law ∙ ap (λ (r : Result D F). r >>= finish (length (lines_of (text_of rows)) + 1)) run ∙ ap (λ (k : ℕ). finish (k + 1) d) count
 
 -- ---- reading rows in the place of lines
 
@@ -111,31 +145,23 @@ unfoldable pub run_rows : {E D F : Type 0} → Grammar E D F → (D → E → D)
 run_rows g add n d [] = Ok d
 run_rows g add n d (row ∷ rows) = row_entry g n d row >>= λ e. run_rows g add (n + 1) (grow add d e) rows
 
-faultless : (n : ℕ) (row : List (List ℕ)) → IsRow row → fault_of n (body_of row) ≡ None
-faultless n row h =
-    cond-false (ltb 16384 (length (body_of row))) _ _ (le-ltb 16384 (length (body_of row)) h.short) ∙ cond-false (has_bad_byte (body_of row)) _ _ (good_body row h.words)
+row_line : (row : List (List ℕ)) → IsRow row → IsLine (body_of row) row
+row_line row h = record { tokens = tokens_body row h.words; good = good_body row h.words; no_feed = no_feed_body row h.words; short = h.short }
 
-line_is_row : {E D F : Type 0} (g : Grammar E D F) (n : ℕ) (d : D) (row : List (List ℕ)) → IsRow row → line_entry g n d (body_of row) ≡ row_entry g n d row
-unfolding line_entry
-line_is_row g n d row h =
-    ap (λ (o : Option LexFault). unless_faulty g.lexical o (row_entry g n d (tokens_of (body_of row)))) (faultless n row h) ∙ ap (row_entry g n d) (tokens_body row h.words)
+row_feeds : (rows : List (List (List ℕ))) → AllByRecursion IsRow rows → HaveNoFeed rows
+row_feeds [] h = tt
+row_feeds (row ∷ rows) h = (no_feed_body row h.0.words, row_feeds rows h.1)
 
 pub run_printed : {E D F : Type 0} (g : Grammar E D F) (add : D → E → D) (n : ℕ) (d : D) (rows : List (List (List ℕ))) → AllByRecursion IsRow rows → run_from g add n d (map body_of rows) ≡ run_rows g add n d rows
 unfolding run_from run_rows
 run_printed g add n d [] h = refl
 run_printed {E = E} {F = F} g add n d (row ∷ rows) h =
-    ap (λ (r : Result (Option E) F). r >>= λ e. run_from g add (n + 1) (grow add d e) (map body_of rows)) (line_is_row g n d row h.0) ∙ bind_same (row_entry g n d row) (λ o. run_from g add (n + 1) (grow add d o) (map body_of rows)) (λ o. run_rows g add (n + 1) (grow add d o) rows) (λ o. run_printed g add (n + 1) (grow add d o) rows h.1)
-
-length_bodies : (rows : List (List (List ℕ))) → length (map body_of rows) ≡ length rows
-length_bodies rows = length-map rows body_of
+    ap (λ (r : Result (Option E) F). r >>= λ e. run_from g add (n + 1) (grow add d e) (map body_of rows)) (line_is_row g n d (body_of row) row (row_line row h.0)) ∙ bind_same (row_entry g n d row) (λ o. run_from g add (n + 1) (grow add d o) (map body_of rows)) (λ o. run_rows g add (n + 1) (grow add d o) rows) (λ o. run_printed g add (n + 1) (grow add d o) rows h.1)
 
 -- a printed text reads as its rows do
 pub reading_printed : {E D V F : Type 0} (g : Grammar E D F) (add : D → E → D) (finish : ℕ → D → Result V F) (rows : List (List (List ℕ))) (d : D) → AddsUp g add → AllByRecursion IsRow rows → run_rows g add 1 (g.declared []) rows ≡ Ok d → reading_of g finish (text_of rows) ≡ finish (length rows + 1) d
-reading_printed {D = D} {F = F} g add finish rows d law are h =
-    let lines = lines_text rows are in
-    let count : length (lines_of (text_of rows)) ≡ length rows = ap length lines ∙ length_bodies rows in
-    let run : run_from g add 1 (g.declared []) (lines_of (text_of rows)) ≡ Ok d = ap (run_from g add 1 (g.declared [])) lines ∙ run_printed g add 1 (g.declared []) rows are ∙ h in
-    reading_run g add finish (text_of rows) law ∙ ap (λ (r : Result D F). r >>= finish (length (lines_of (text_of rows)) + 1)) run ∙ ap (λ (k : ℕ). finish (k + 1) d) count
+reading_printed g add finish rows d law are h =
+    reading_lines g add finish rows d law (row_feeds rows are) (run_printed g add 1 (g.declared []) rows are ∙ h)
 
 -- ---- numbers
 
@@ -194,7 +220,7 @@ read_is base n text h lt =
     ∙ ap (λ (x : ℕ). Some x) h.value
 
 -- no decimal digit is an x
-no_x : (text : List ℕ) → all_digits 10 text ≡ true → is_hex text ≡ false
+pub no_x : (text : List ℕ) → all_digits 10 text ≡ true → is_hex text ≡ false
 no_x [] h = refl
 no_x (b ∷ []) h = and_right (eqb b 48) false refl
 no_x (b ∷ c ∷ cs) h =
@@ -220,7 +246,7 @@ IsWord-hex n = let h = numeral_is 16 n (omega arith) (omega arith) in record { s
 
 -- ---- lengths
 
-numeral_le : (base k n : ℕ) → 2 ≤ base → 1 ≤ k → n < base ^ k → length (numeral base n) ≤ k
+pub numeral_le : (base k n : ℕ) → 2 ≤ base → 1 ≤ k → n < base ^ k → length (numeral base n) ≤ k
 unfolding numeral
 numeral_le base k n low some lt =
     elim (cases_lt 0 n) [

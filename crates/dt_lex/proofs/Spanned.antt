@@ -13,7 +13,7 @@ use Rattle.dt_lex.proofs.Cuts.{at_line_end}
 use Rattle.dt_lex.specs.Spans.{numbered, token_in, tokens_in, lexed_from, lexed, AreInOrder, is_memory}
 
 -- a part of a part
-part_of : (text : List ℕ) (a b s e : ℕ) → s ≤ e → a + e ≤ b → slice_range (slice_range text a b) s e ≡ slice_range text (a + s) (a + e)
+pub part_of : (text : List ℕ) (a b s e : ℕ) → s ≤ e → a + e ≤ b → slice_range (slice_range text a b) s e ≡ slice_range text (a + s) (a + e)
 part_of text a b s e le within =
     let m = b - a - s in
     let width : b - a ≡ s + m = omega arith in
@@ -21,7 +21,7 @@ part_of text a b s e le within =
     let same : e - s ≡ a + e - (a + s) = omega arith in
     ap (take (e - s)) inner ∙ take-take (e - s) m (drop (a + s) text) (omega arith) ∙ ap (λ (k : ℕ). take k (drop (a + s) text)) same
 
-rest_of : (text : List ℕ) (a b e : ℕ) → a + e ≤ b → drop e (slice_range text a b) ≡ slice_range text (a + e) b
+pub rest_of : (text : List ℕ) (a b e : ℕ) → a + e ≤ b → drop e (slice_range text a b) ≡ slice_range text (a + e) b
 rest_of text a b e within =
     let m = b - (a + e) in
     let width : b - a ≡ e + m = omega arith in

@@ -10,6 +10,11 @@ abbrev pub ◌>>=◌ : {A B F : Type 0} → Result A F → (A → Result B F) �
 (Ok x) >>= f = f x
 (Err e) >>= f = Err e
 
+-- the last of a list, or d where it has none
+abbrev pub last_of : {X : Type 0} → X → List X → X
+last_of d [] = d
+last_of d (x ∷ xs) = last_of x xs
+
 -- A kind of text: its entries E, what they declare D, and its faults F.
 pub record Grammar (E D F : Type 0) : Type 0 where
   pub lexical : LexFault → F

@@ -1,6 +1,5 @@
 -- Lines, their tokens, and what is wrong with a line's bytes.
 use Rattle.std.specs.Prelude.{ℕ, ◌==◌, Bool, false, not, ◌&&◌, ◌||◌, nat_lt, nat_le, List, [], ◌∷◌, length, Option, Some, None, if◌then◌else◌}
-use Rattle.std.specs.List.{list_all}
 use Rattle.dt_lex.specs.declared.fault.LexFault.{LexFault}
 use Rattle.dt_lex.specs.declared.fault.LexFault.TheVariants.{LineTooLong, BadByte}
 
@@ -48,11 +47,3 @@ has_bad_byte (b ∷ bs) = if b == 35 then false else (is_bad b || has_bad_byte b
 -- what is wrong with the bytes of the n-th line
 abbrev pub fault_of : ℕ → List ℕ → Option LexFault
 fault_of n line = if nat_lt 16384 (length line) then Some (LineTooLong n) else (if has_bad_byte line then Some (BadByte n) else None)
-
--- a line feed, or printable and no comment's sign
-abbrev pub is_thin_byte : ℕ → Bool
-is_thin_byte b = (b == 10) || (nat_le 32 b && nat_lt b 127 && not (b == 35))
-
--- the text has such bytes alone
-abbrev pub is_thin : List ℕ → Bool
-is_thin text = list_all is_thin_byte text

@@ -1,7 +1,7 @@
 ghost use Rattle.std.specs.Prelude.{◌≡◌, ◌++◌, ◌≤◌, ◌<◌, ◌-◌, ◌^◌, length, OnOk, IfOk, slice_range};
 ghost use Rattle.dt_lex.specs.Text.{tokens_of};
 ghost use Rattle.dt_lex.specs.Reading.{Gives};
-ghost use Rattle.dt_lex.specs.Spans.{numbered, tokens_in, lexed_in, lexed, AreInOrder, is_memory};
+ghost use Rattle.dt_lex.specs.Spans.{numbered, tokens_in, lexed_in, lexed, spans_of, on_line, all_tokens, AreInOrder, is_memory};
 
 use crate::fault::LexFault;
 use crate::spans::{Lexed, Token};
@@ -9,7 +9,7 @@ use crate::text::{fault_in, first_token, line_len};
 use std::alloc::{AllocError, Global};
 
 /// Pushes the tokens of the line that stands from `from` up to `to`.
-#[tactic(auto, using(crate::proofs::Spanned::token_more, crate::proofs::Spanned::token_end, crate::proofs::Spanned::in_order_more, crate::proofs::Spanned::in_order_wider))]
+#[tactic(auto, using(crate::proofs::Spanned::token_more, crate::proofs::Spanned::token_end, crate::proofs::Spanned::in_order_more, crate::proofs::Spanned::in_order_wider, crate::proofs::Located::span_more, crate::proofs::Located::span_end))]
 fn push_tokens(
     text: &[u8],
     from: usize,
@@ -23,6 +23,8 @@ fn push_tokens(
         tokens_in text.now tokens.new.items
         ≡ tokens_in text.now tokens.old.items
         ++ numbered number (tokens_of (slice_range text.now from to))) }
+    ensures spans { OnOk result (tokens.new.items
+        ≡ tokens.old.items ++ on_line number (spans_of from (slice_range text.now from to))) }
     ensures in_order { OnOk result (AreInOrder 0 to tokens.new.items) }
 {
     let mut at = from;
@@ -43,6 +45,7 @@ fn push_tokens(
 pub fn lex(alloc: Global, bytes: &[u8]) -> Result<Lexed, LexFault>
     requires { length bytes.now < 2 ^ 32 - 1 }
     ensures lexed { Gives is_memory (lexed_in bytes.now) result (lexed bytes.now) }
+    ensures spans { IfOk result (λ l. l.tokens.items ≡ all_tokens bytes.now) }
     ensures in_order { IfOk result (λ l. AreInOrder 0 (length bytes.now) l.tokens.items) }
 {
     let mut tokens = Vec::new(alloc);

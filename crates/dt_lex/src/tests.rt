@@ -1,6 +1,6 @@
 ghost use Rattle.std.specs.Prelude.{◌<◌, ◌^◌};
 
-use crate::{LexFault, Name, Token, is_thin, lex, next_line, number, push_decimal, push_hex};
+use crate::{LexFault, Name, Token, lex, next_line, number, push_decimal, push_hex};
 use std::process::Abort;
 use std::test::Fail;
 
@@ -100,17 +100,4 @@ fn a_last_piece_without_a_line_feed_is_a_line(rt: HostRuntime) -> Result<(), Fai
     let (last, _) = next_line(rest).ok_or("no line")?;
     assert_eq!(rt; last, b"c".as_slice());
     Ok(())
-}
-
-#[test]
-fn a_thin_text_has_no_comment_and_no_tab(rt: HostRuntime) {
-    let texts = [
-        (b"node a (b)\n".as_slice(), true),
-        (b"a\tb", false),
-        (b"a\r\n", false),
-        (b"a # b", false),
-    ];
-    for (text, thin) in texts {
-        assert_eq!(rt; is_thin(text), thin);
-    }
 }

@@ -1,6 +1,7 @@
-ghost use Rattle.std.specs.Prelude.{◌≡◌, ◌==◌, ◌+◌, ◌-◌, ◌≤◌, ◌<◌, ◌∷◌, [], not, length, take, drop, MatchOption, IfSome, slice_range};
+ghost use Rattle.std.specs.Prelude.{◌≡◌, ◌==◌, ◌+◌, ◌-◌, ◌≤◌, ◌<◌, ◌∷◌, [], ℕ, not, length, take, drop, MatchOption, IfSome, slice_range};
 ghost use Rattle.std.specs.List.{prefix_len, position_or_len};
-ghost use Rattle.dt_lex.specs.Text.{lines_of, is_blank, is_paren, is_word, tokens_of, is_bad, has_bad_byte, fault_of, is_thin_byte, is_thin};
+ghost use Rattle.dt_lex.specs.Text.{lines_of, is_blank, is_paren, is_word, tokens_of, is_bad, has_bad_byte, fault_of};
+ghost use Rattle.dt_lex.specs.Spans.{spans_of};
 
 use crate::fault::LexFault;
 
@@ -73,6 +74,9 @@ pub fn first_token(line: &[u8]) -> Option<(usize, usize)>
     ensures within { IfSome result (λ x. (x.0 < x.1) × (x.1 ≤ length line.now)) }
     ensures cut { MatchOption result (tokens_of line.now ≡ [])
         (λ x. tokens_of line.now ≡ slice_range line.now x.0 x.1 ∷ tokens_of (drop x.1 line.now)) }
+    ensures span { MatchOption result ((start : ℕ) → spans_of start line.now ≡ [])
+        (λ x. (start : ℕ) → spans_of start line.now
+        ≡ (start + x.0, start + x.1) ∷ spans_of (start + x.1) (drop x.1 line.now)) }
 {
     let mut i = 0;
     while i < line.len() {
@@ -139,18 +143,4 @@ pub fn fault_in(number: u32, line: &[u8]) -> Option<LexFault>
         return Some(LexFault::BadByte(number));
     }
     None
-}
-
-fn is_thin_byte(b: u8) -> bool
-    ensures { result ≡ is_thin_byte b }
-{
-    b == b'\n' || (b >= b' ' && b < 127 && b != b'#')
-}
-
-/// Whether a text has only line feeds and printable ASCII without `#`, as the languages ask while
-/// they are not whole.
-pub fn is_thin(text: &[u8]) -> bool
-    ensures { result ≡ is_thin text.now }
-{
-    text.iter().all(|b| is_thin_byte(*b))
 }

@@ -1,8 +1,9 @@
 -- What a model that is accepted has: widths, few of each thing, a word, and rules of one bit.
-use Rattle.std.proofs.Common.{◌≡◌, ◌≢◌, ℕ, zero, suc, ◌+◌, ◌<◌, ◌≤◌, true, false, not, eqb, List, [], ◌∷◌, Option, Some, None, length, take, ◌++◌, ◌⊎◌, ⊎_elim, inl, inr, refl, sym, ap, subst, arith}
+use Rattle.std.proofs.Common.{◌≡◌, ◌≢◌, ℕ, zero, suc, ◌+◌, ◌*◌, ◌/◌, ◌<◌, ◌≤◌, true, false, not, eqb, List, [], ◌∷◌, Option, Some, None, length, take, ◌++◌, ◌⊎◌, ⊎_elim, inl, inr, refl, sym, ap, subst, arith}
 use Rattle.std.specs.Prelude.{IsSome, IsSomeAnd, slice_get}
 use Rattle.std.specs.List.{All}
 use Rattle.std.proofs.lemmas.Bool.{false_from_ne_true, true_from_ne_false, or_parts, and_parts, false≢true, leb-true, eqb-true, eqb-false, not-false, cases_lt, or_cases}
+use Rattle.dt_bits.specs.Memory.{IsWordSize}
 use Rattle.dt_lex.specs.declared.name.Name.{Name}
 use Rattle.dt_model.specs.declared.model.Named.{Named}
 use Rattle.dt_model.specs.declared.refusal.ModelRefusal.{ModelRefusal}
@@ -96,6 +97,16 @@ word_cases w e =
 -- the word has 8, 16, 32 or 64 bits
 pub accepted_word : (d : Data) → IsAccepted d → (d.word ≡ 8) ⊎ ((d.word ≡ 16) ⊎ ((d.word ≡ 32) ⊎ (d.word ≡ 64)))
 accepted_word d a = word_cases d.word (header_range d a).0
+
+-- it is whole bytes, of a number that words of table memory have
+pub word_bytes : (w : ℕ) → (w ≡ 8) ⊎ ((w ≡ 16) ⊎ ((w ≡ 32) ⊎ (w ≡ 64))) → IsWordSize (w / 8) × (w ≡ 8 * (w / 8))
+word_bytes w (inl e) = (inl (ap (λ n. n / 8) e), subst (λ n. n ≡ 8 * (n / 8)) (sym e) refl)
+word_bytes w (inr (inl e)) = (inr (inl (ap (λ n. n / 8) e)), subst (λ n. n ≡ 8 * (n / 8)) (sym e) refl)
+word_bytes w (inr (inr (inl e))) = (inr (inr (inl (ap (λ n. n / 8) e))), subst (λ n. n ≡ 8 * (n / 8)) (sym e) refl)
+word_bytes w (inr (inr (inr e))) = (inr (inr (inr (ap (λ n. n / 8) e))), subst (λ n. n ≡ 8 * (n / 8)) (sym e) refl)
+
+pub accepted_bytes : (d : Data) → IsAccepted d → IsWordSize (d.word / 8) × (d.word ≡ 8 * (d.word / 8))
+accepted_bytes d a = word_bytes d.word (accepted_word d a)
 
 pub accepted_address : (d : Data) → IsAccepted d → (8 ≤ d.address) × (d.address ≤ 64)
 accepted_address d a = let p = and_parts _ _ (header_range d a).1 in (leb-true 8 d.address p.0, leb-true d.address 64 p.1)

@@ -1,5 +1,6 @@
 pub mod Sets
 pub mod Data
+pub mod Spelled
 pub mod Paths
 pub mod Flow
 pub mod Widths
