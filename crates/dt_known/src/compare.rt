@@ -5,8 +5,7 @@ ghost use Rattle.dt_known.specs.Known.{IsKnown, known_bit, from_bits};
 ghost use Rattle.dt_known.specs.Forward.{common, eq_bit, ltu_bit, greatest, ite_bit};
 
 use crate::Known;
-use crate::parts::ones;
-use dt_bits::Width;
+use dt_bits::{Width, ones};
 
 /// The Known of one bit.
 pub fn flag_of(known: Option<bool>) -> Known

@@ -2,8 +2,7 @@
 use crate::Known;
 use crate::backward::{first_of, second_of, third_of};
 use crate::forward::{is_some_used_empty, result_width, table_of};
-use crate::parts::ones;
-use dt_bits::{Bv, Op, Width};
+use dt_bits::{Bv, Op, Width, ones};
 use dt_domain::{Deciding, Domain};
 
 impl Domain for Known {

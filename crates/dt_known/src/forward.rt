@@ -9,9 +9,8 @@ ghost use Rattle.dt_known.specs.Ops.{known_ops};
 use crate::Known;
 use crate::compare::{eq_of, ite_of, ltu_of};
 use crate::moved::{concat_of, shl_of, shr_of, sign_of, slice_of};
-use crate::parts::ones;
 use crate::sums::{difference_of, sum_of};
-use dt_bits::{Bv, Op, Width, arity};
+use dt_bits::{Bv, Op, Width, arity, ones};
 
 #[tactic(auto, using(crate::proofs::Words::const_words))]
 pub fn const_of(value: Bv) -> Known

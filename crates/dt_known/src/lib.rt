@@ -5,30 +5,31 @@
 //! Proved: each call answers exactly its definition (`specs/Known.antt`, `specs/Forward.antt`,
 //! `specs/Backward.antt`: what is known of each bit of the answer), and these definitions keep all
 //! laws of a domain and the law of a deciding one (`specs/Laws.antt`).
-//! Only tested: what a call costs, and that the definitions say what is meant: `dt_known_table`
-//! compares several hundred answers with ones that were worked out bit by bit outside.
+//! Only tested: what a call costs, and that the definitions say what is meant: `dt_domain_table`
+//! compares 825 answers with ones that were worked out bit by bit outside.
 //!
 //! The table says what a call costs at a width of 128, in nanoseconds, beyond the making of its
-//! operands, measured by `dt_known_bench` on a busy machine of four processors (the best of many
-//! runs; a second run differs by up to 1).
+//! operands, measured by `dt_domain_bench` on a quiet machine of four processors (the best of many
+//! runs), in a program that has this domain alone: with several in one program the calls aren't
+//! inlined, and a call costs some 15 forward and 30 backward more. Operands are random, so most branches can't be foreseen.
 //!
 //! | call | forward | backward, by place |
 //! |---|---|---|
-//! | Const | 1.5 | |
-//! | Not | 2.1 | 0.5 |
-//! | And | 3.5 | 0.7, 0.9 |
-//! | Or | 3.1 | 1.1, 1.4 |
-//! | Xor | 2.5 | 0.8, 1.0 |
-//! | Add | 3.5 | 2.3, 2.3 |
-//! | Sub | 3.4 | 2.7, 2.7 |
-//! | Slice | 5.4 | 2.1 |
-//! | Concat | 5.1 | 2.9, 1.0 |
-//! | SignExt | 3.1 | 1.6 |
-//! | Shl | 4.1 | 3.2 |
-//! | Shr | 3.8 | 3.0 |
-//! | Eq | 4.1 | 2.9, 3.2 |
-//! | Ltu | 4.4 | 0.4, 0.1 |
-//! | Ite | 2.8 | 2.2, 1.6, 0.7 |
+//! | Const | 3.0 | |
+//! | Not | 4.3 | 0.8 |
+//! | And | 4.9 | 0.9, 1.1 |
+//! | Or | 4.9 | 1.8, 1.7 |
+//! | Xor | 4.3 | 1.3, 1.3 |
+//! | Add | 5.5 | 2.4, 2.7 |
+//! | Sub | 5.6 | 2.9, 3.7 |
+//! | Slice | 5.9 | 2.4 |
+//! | Concat | 5.6 | 3.2, 1.4 |
+//! | SignExt | 4.9 | 1.8 |
+//! | Shl | 6.2 | 3.6 |
+//! | Shr | 5.9 | 3.4 |
+//! | Eq | 5.3 | 4.2, 3.3 |
+//! | Ltu | 5.6 | 0.6, 0.4 |
+//! | Ite | 4.9 | 2.6, 1.7, 0.9 |
 //!
 //! `meet` costs less than 1 and `with_bit` about 7.
 #![tactic(auto)]

@@ -4,8 +4,7 @@ ghost use Rattle.dt_bits.specs.Bits.{IsWidth, bit, width};
 ghost use Rattle.dt_known.specs.Known.{IsKnown, known_bit, from_bits};
 
 use crate::Known;
-use crate::parts::{low_ones, ones};
-use dt_bits::{Width, bit_of};
+use dt_bits::{Width, bit_of, low_ones, ones};
 
 #[tactic(auto, using(crate::proofs::MovedWords::slice_words))]
 pub fn slice_of(a: &Known, hi: u32, lo: u32) -> Known

@@ -4,27 +4,7 @@ ghost use Rattle.dt_bits.specs.Bits.{IsWidth};
 ghost use Rattle.dt_known.specs.Known.{IsKnown, known_bit, nothing, known_full, single_bit, are_apart, all_known, is_one, is_zero};
 
 use crate::Known;
-use dt_bits::{Width, bit_of};
-
-/// The word of `count` ones.
-pub fn low_ones(count: u32) -> u128
-    requires { count < 128 }
-    ensures { result ≡ 2 ^ count - 1 }
-{
-    (1 << count) - 1
-}
-
-/// The word of a width's bits.
-pub fn ones(width: Width) -> u128
-    requires { IsWidth width.0 }
-    ensures { result ≡ 2 ^ width.0 - 1 }
-{
-    if width.0 == 128 {
-        u128::MAX
-    } else {
-        low_ones(width.0)
-    }
-}
+use dt_bits::{Width, bit_of, ones};
 
 /// The word, or 0 where it doesn't hold.
 pub fn word_if(holds: bool, word: u128) -> u128

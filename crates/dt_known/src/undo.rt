@@ -5,8 +5,7 @@ ghost use Rattle.dt_known.specs.Known.{IsKnown, known_bit, from_bits};
 ghost use Rattle.dt_known.specs.Backward.{and_back, or_back};
 
 use crate::Known;
-use crate::parts::ones;
-use dt_bits::Width;
+use dt_bits::{Width, ones};
 
 /// The Known that knows no bit.
 #[tactic(auto, using(crate::proofs::BackWords::none_words))]

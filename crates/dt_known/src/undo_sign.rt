@@ -5,8 +5,8 @@ ghost use Rattle.dt_known.specs.Known.{IsKnown, known_bit, from_bits, nothing};
 ghost use Rattle.dt_known.specs.Backward.{some_one_from, some_zero_from, top_bit};
 
 use crate::Known;
-use crate::parts::{low_ones, ones, word_if};
-use dt_bits::Width;
+use crate::parts::word_if;
+use dt_bits::{Width, low_ones, ones};
 
 /// Some bit from `start` on is known to be 1.
 #[tactic(auto, using(crate::proofs::SignWords::one_from))]

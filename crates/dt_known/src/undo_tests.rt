@@ -6,9 +6,8 @@ ghost use Rattle.dt_known.specs.Backward.{is_only_unknown, apart_bit, are_same, 
 
 use crate::Known;
 use crate::compare::flag_of;
-use crate::parts::ones;
 use crate::undo::unknown;
-use dt_bits::Width;
+use dt_bits::{Width, ones};
 
 /// The word of the only bit that isn't known, or 0 where there are more or none.
 #[tactic(auto, using(crate::proofs::TestWords::lowest_below))]

@@ -1,0 +1,38 @@
+//! Answers of the domains for a table of cases, one a line, so that they can be compared with
+//! answers that were worked out outside of this program (`tests/domains.py`). A line has the
+//! domain, the call, the place (3 for forward), two parameters, and four domains: the operands a,
+//! b and c and the result. Known bits are a width, mask, value and 1 where empty; a range is a
+//! width, lo and hi; a pair is a width, mask, value, lo and hi. An answer is printed in the same
+//! form.
+//!
+//! Proved: a call is made only where its conditions hold, and the program ends.
+//! Only tested: the reading and printing of lines.
+#![tactic(auto)]
+
+mod asked;
+mod call;
+mod known;
+mod numbers;
+mod pair;
+mod range;
+
+use crate::call::call_of;
+use crate::numbers::numbers;
+use std::io;
+
+fn main(rt: HostRuntime) -> io::Result<()> {
+    for line in rt.lines(rt.alloc()) {
+        let line = line?;
+        let given = numbers(rt.alloc(), line.as_str())?;
+        let mut words = line.as_str().split_whitespace();
+        let domain = words.next().unwrap_or("");
+        let call = call_of(words.next().unwrap_or(""), given.as_slice());
+        match domain {
+            "known" => known::answer(&rt, call, given.as_slice())?,
+            "range" => range::answer(&rt, call, given.as_slice())?,
+            "pair" => pair::answer(&rt, call, given.as_slice())?,
+            _ => println!(rt; "not a case")?,
+        }
+    }
+    Ok(())
+}

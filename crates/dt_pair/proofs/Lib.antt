@@ -1,0 +1,4 @@
+pub mod Places
+pub mod Words
+pub mod Normals
+pub mod Made
