@@ -1,0 +1,134 @@
+use crate::changing::change_of;
+use crate::emptying::first_empty;
+use crate::rooting::{full_cells, require_ones};
+use crate::settling::first_step;
+use crate::telling::{narrowed, target};
+use crate::{Changed, Step};
+use dt_bits::NoMemory;
+use dt_domain::Domain;
+use dt_terms::Problem;
+use std::alloc::Global;
+use std::marker::Model;
+
+/// What is known of each term of a problem: a domain for each.
+///
+/// Each call that takes a problem asks that these are cells of it: there is one domain for each
+/// term, of the term's width.
+#[derive(Debug, Drop)]
+pub struct Cells<D: Domain> {
+    cells: Vec<D>,
+}
+
+impl<D: Domain> Model for Cells<D> {
+    ghost use Rattle.std.specs.Prelude.{List};
+    ghost use Rattle.std.specs.Coded.{coded_list};
+    ghost use Rattle.dt_box.specs.Cells.{AreDomains};
+
+    ghost Value = { List D };
+
+    ghost coded = { coded_list D.code };
+
+    ghost view = { λ c. c.cells.items };
+
+    ghost invariant = { λ c. AreDomains D.ops c.cells.items };
+}
+
+impl<D: Domain> Cells<D> {
+    ghost use Rattle.std.specs.Prelude.{◌≡◌, ◌<◌, length, IsTrue, IfOk, IfSome, IfNone, MatchOption};
+    ghost use Rattle.std.specs.List.{position_from};
+    ghost use Rattle.dt_terms.specs.Terms.{bits_at};
+    ghost use Rattle.dt_box.specs.Cells.{AreCells, cell_at, root_cells};
+    ghost use Rattle.dt_box.specs.Steps.{IsStep, target, narrowed, after_step, after_bit};
+    ghost use Rattle.dt_box.specs.Changes.{IsChange};
+    ghost use Rattle.dt_box.specs.Settled.{HasNoEmpty, IsSettled, TellsNew};
+
+    /// The cells of what is known at first: each holds every number of its term's width, and the
+    /// cell of a term that must be 1 holds 1 alone.
+    pub fn root(alloc: Global, problem: &Problem) -> Result<Cells<D>, NoMemory>
+        ensures cells { IfOk result (λ cells. cells ≡ root_cells D.ops problem.now) }
+        ensures are { IfOk result (λ cells. AreCells D.ops problem.now.terms cells) }
+    {
+        let mut cells = full_cells(alloc, problem.terms.as_slice())?;
+        require_ones(&mut cells, problem.required.as_slice());
+        Ok(Cells { cells })
+    }
+
+    /// Equal cells, in memory of their own.
+    pub fn copy(&self, alloc: Global) -> Result<Cells<D>, NoMemory>
+        ensures { IfOk result (λ cells. cells ≡ self.now) }
+    {
+        Ok(Cells {
+            cells: Vec::from_slice(alloc, &self.cells)?,
+        })
+    }
+
+    /// How many cells there are.
+    pub fn len(&self) -> usize
+        ensures { result ≡ length self.now }
+    {
+        self.cells.len()
+    }
+
+    /// The domain of the term at a position.
+    pub fn get(&self, term: u32) -> D
+        requires { term < length self.now }
+        ensures value { result ≡ cell_at D.ops self.now term }
+        ensures domain { D.ops.IsDomain result }
+    {
+        self.cells[term as usize]
+    }
+
+    /// Takes a step of the problem: its target's cell becomes its meet with what the neighbours
+    /// tell; all others stay. The answer tells what became of that cell. It takes no memory.
+    pub fn apply(&mut self, problem: &Problem, step: Step) -> Changed
+        requires cells { AreCells D.ops problem.now.terms self.old }
+        requires step { IsStep problem.now.terms step }
+        ensures cells { self.new ≡ after_step D.ops problem.now.terms step self.old }
+        ensures change { IsChange D.ops (cell_at D.ops self.old (target problem.now.terms step)) (narrowed D.ops problem.now.terms step self.old) result }
+        ensures are { AreCells D.ops problem.now.terms self.new }
+    {
+        let terms = problem.terms.as_slice();
+        let new = narrowed(terms, &self.cells, step);
+        let at = target(terms, step) as usize;
+        let old = self.cells[at];
+        self.cells[at] = new;
+        change_of(&old, &new)
+    }
+
+    /// Sets a bit of the term at a position: its cell becomes the one that holds what it held with
+    /// the bit so; all others stay. The answer tells what became of that cell. It takes no memory.
+    pub fn set_bit(&mut self, problem: &Problem, term: u32, bit: u32, value: bool) -> Changed
+        requires cells { AreCells D.ops problem.now.terms self.old }
+        requires term { term < length problem.now.terms }
+        requires bit { bit < bits_at problem.now.terms term }
+        ensures cells { self.new ≡ after_bit D.ops term bit value self.old }
+        ensures change { IsChange D.ops (cell_at D.ops self.old term) (D.ops.with_bit (cell_at D.ops self.old term) bit value) result }
+        ensures are { AreCells D.ops problem.now.terms self.new }
+    {
+        let _ = &problem.terms;
+        let old = self.cells[term as usize];
+        let new = old.with_bit(bit, value);
+        self.cells[term as usize] = new;
+        change_of(&old, &new)
+    }
+
+    /// The position of the first empty cell; None exactly where no cell is empty. It takes no
+    /// memory.
+    pub fn empty_cell(&self) -> Option<u32>
+        ensures first { result ≡ position_from D.ops.is_empty 0 self.now }
+        ensures found { IfSome result (λ t. (t < length self.now) × IsTrue (D.ops.is_empty (cell_at D.ops self.now t))) }
+        ensures none { IfNone result (HasNoEmpty D.ops self.now) }
+    {
+        first_empty(&self.cells)
+    }
+
+    /// A step that would empty a cell or make a further bit known; None exactly where the cells are
+    /// settled, that is where there is no such step. No cell may be empty. It takes no memory.
+    pub fn unsettled(&self, problem: &Problem) -> Option<Step>
+        requires cells { AreCells D.ops problem.now.terms self.now }
+        requires held { HasNoEmpty D.ops self.now }
+        ensures { MatchOption result (IsSettled D.ops problem.now.terms self.now) (λ step. TellsNew D.ops problem.now.terms step self.now) }
+    {
+        first_step(problem.terms.as_slice(), &self.cells)
+    }
+}

@@ -1,0 +1,4 @@
+pub mod Terms
+pub mod Problem
+pub mod Adding
+pub mod Values
