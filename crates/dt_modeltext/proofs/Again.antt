@@ -13,8 +13,8 @@ use Rattle.dt_lex.specs.declared.name.Name.{Name}
 use Rattle.dt_lex.specs.Names.{name_of}
 use Rattle.dt_lex.specs.Numeral.{number_of, digits_read}
 use Rattle.dt_model.specs.Data.{Tree, value, reg, input, var, apply1, apply2, apply3}
-use Rattle.dt_model.specs.Widths.{Scope, depth}
-use Rattle.dt_modeltext.specs.Expr.{Read, ◌>>=◌, small_of, decimal_of, is_colon, unknown, position_of, named, named_or, first_by, small_at, atom_of, constant_of, is_open, closing, closed, slice_at, operator_at, one_at, two_at, three_at, operands_at, applied_at, level, expr_at}
+use Rattle.dt_model.specs.Widths.{depth}
+use Rattle.dt_modeltext.specs.Expr.{Names, Read, ◌>>=◌, small_of, decimal_of, is_colon, unknown, named, named_or, first_by, small_at, atom_of, constant_of, is_open, closing, closed, slice_at, counted_at, plain_of, operator_at, one_at, two_at, three_at, operands_at, applied_at, level, expr_at}
 use Rattle.dt_modeltext.proofs.Arities.{bound, at_some}
 use Rattle.dt_modeltext.specs.Spelling.{SpellsOperator, SpellsAtom, Spells}
 
@@ -27,11 +27,11 @@ shut rest = codes ")" ∷ rest
 -- ---- tokens
 
 -- a parenthesis is no name and no constant
-open_is_none : (s : Scope) → atom_of s (codes "(") ≡ None
+open_is_none : (s : Names) → atom_of s (codes "(") ≡ None
 unfolding atom_of name_of constant_of decimal_of small_of number_of digits_read
 open_is_none s = refl
 
-atom_not_open : (s : Scope) (e : Tree) (t : List ℕ) → atom_of s t ≡ Some e → is_open t ≡ false
+atom_not_open : (s : Names) (e : Tree) (t : List ℕ) → atom_of s t ≡ Some e → is_open t ≡ false
 atom_not_open s e t h =
     elim (cases_Bool (is_open t)) [
       | inl is ↦
@@ -44,26 +44,26 @@ atom_not_open s e t h =
 -- ---- what is spelled is read
 
 -- part reads what is spelled, up to a depth
-pub record Reads (s : Scope) (most : ℕ) (part : Tokens → Read Tree) : Type 0 where
+pub record Reads (s : Names) (most : ℕ) (part : Tokens → Read Tree) : Type 0 where
   pub again : (e : Tree) (ts rest : Tokens) → Spells s e ts → depth e ≤ most → part (ts ++ rest) ≡ Some (e, rest)
 
 operator_again : (op : Op) (os rest : Tokens) → SpellsOperator op os → operator_at (os ++ rest) ≡ Some (op, rest)
-unfolding operator_at slice_at
+unfolding operator_at slice_at counted_at plain_of
+operator_again Not os rest h = ap (λ (ts : Tokens). operator_at (ts ++ rest)) h
+operator_again And os rest h = ap (λ (ts : Tokens). operator_at (ts ++ rest)) h
+operator_again Or os rest h = ap (λ (ts : Tokens). operator_at (ts ++ rest)) h
+operator_again Xor os rest h = ap (λ (ts : Tokens). operator_at (ts ++ rest)) h
 operator_again Add os rest h = ap (λ (ts : Tokens). operator_at (ts ++ rest)) h
-operator_again (Slice hi lo) os rest h = ap (λ (ts : Tokens). operator_at (ts ++ rest)) h.4 ∙ rw (h.2, h.3) refl
+operator_again Sub os rest h = ap (λ (ts : Tokens). operator_at (ts ++ rest)) h
 operator_again Concat os rest h = ap (λ (ts : Tokens). operator_at (ts ++ rest)) h
 operator_again Eq os rest h = ap (λ (ts : Tokens). operator_at (ts ++ rest)) h
+operator_again Ltu os rest h = ap (λ (ts : Tokens). operator_at (ts ++ rest)) h
+operator_again Ite os rest h = ap (λ (ts : Tokens). operator_at (ts ++ rest)) h
+operator_again (Slice hi lo) os rest h = ap (λ (ts : Tokens). operator_at (ts ++ rest)) h.4 ∙ rw (h.2, h.3) refl
+operator_again (SignExt n) os rest h = ap (λ (ts : Tokens). operator_at (ts ++ rest)) h.2 ∙ rw (h.1) refl
+operator_again (Shl n) os rest h = ap (λ (ts : Tokens). operator_at (ts ++ rest)) h.2 ∙ rw (h.1) refl
+operator_again (Shr n) os rest h = ap (λ (ts : Tokens). operator_at (ts ++ rest)) h.2 ∙ rw (h.1) refl
 operator_again (Const v) os rest h = absurd h
-operator_again Not os rest h = absurd h
-operator_again And os rest h = absurd h
-operator_again Or os rest h = absurd h
-operator_again Xor os rest h = absurd h
-operator_again Sub os rest h = absurd h
-operator_again (SignExt to) os rest h = absurd h
-operator_again (Shl by) os rest h = absurd h
-operator_again (Shr by) os rest h = absurd h
-operator_again Ltu os rest h = absurd h
-operator_again Ite os rest h = absurd h
 
 by_one : (part : Tokens → Read Tree) (op : Op) (ts : Tokens) → arity_of op ≡ 1 → operands_at part op ts ≡ one_at part op ts
 unfolding operands_at
@@ -77,24 +77,24 @@ by_three : (part : Tokens → Read Tree) (op : Op) (ts : Tokens) → arity_of op
 unfolding operands_at
 by_three part op ts h = rw h refl
 
-applied_again : (s : Scope) (part : Tokens → Read Tree) (op : Op) (os ts : Tokens) → SpellsOperator op os → level s part (codes "(" ∷ (os ++ ts)) ≡ operands_at part op ts
+applied_again : (s : Names) (part : Tokens → Read Tree) (op : Op) (os ts : Tokens) → SpellsOperator op os → level s part (codes "(" ∷ (os ++ ts)) ≡ operands_at part op ts
 unfolding level applied_at
 applied_again s part op os ts h = ap (λ (r : Read Op). r >>= λ x. operands_at part x.0 x.1) (operator_again op os ts h)
 
-atom_again : (s : Scope) (part : Tokens → Read Tree) (e : Tree) (ts rest : Tokens) → SpellsAtom s e ts → level s part (ts ++ rest) ≡ Some (e, rest)
+atom_again : (s : Names) (part : Tokens → Read Tree) (e : Tree) (ts rest : Tokens) → SpellsAtom s e ts → level s part (ts ++ rest) ≡ Some (e, rest)
 unfolding level
 atom_again s part e ts rest h =
     let shown : level s part (h.0 ∷ rest) ≡ first_by (atom_of s) (h.0 ∷ rest) = cond-false (is_open h.0) (applied_at part rest) (first_by (atom_of s) (h.0 ∷ rest)) (atom_not_open s e h.0 h.1) in
     ap (λ (us : Tokens). level s part (us ++ rest)) h.2 ∙ shown ∙ ap (λ (o : Option Tree). option_map (λ (x : Tree). (x, rest)) o) h.1
 
-first_again : (s : Scope) (e : Tree) (ts rest : Tokens) → SpellsAtom s e ts → first_by (atom_of s) (ts ++ rest) ≡ Some (e, rest)
+first_again : (s : Names) (e : Tree) (ts rest : Tokens) → SpellsAtom s e ts → first_by (atom_of s) (ts ++ rest) ≡ Some (e, rest)
 first_again s e ts rest h =
     ap (λ (us : Tokens). first_by (atom_of s) (us ++ rest)) h.2 ∙ ap (λ (o : Option Tree). option_map (λ (x : Tree). (x, rest)) o) h.1
 
 abbrev opened : Tokens → Tokens → Tokens
 opened os ts = codes "(" ∷ (os ++ ts)
 
-level_again : (s : Scope) (most : ℕ) (part : Tokens → Read Tree) → Reads s most part → (e : Tree) (ts rest : Tokens) → Spells s e ts → depth e ≤ suc most → level s part (ts ++ rest) ≡ Some (e, rest)
+level_again : (s : Names) (most : ℕ) (part : Tokens → Read Tree) → Reads s most part → (e : Tree) (ts rest : Tokens) → Spells s e ts → depth e ≤ suc most → level s part (ts ++ rest) ≡ Some (e, rest)
 unfolding Spells one_at two_at three_at
 level_again s most part h (value w n) ts rest p le = atom_again s part (value w n) ts rest p
 level_again s most part h (reg i) ts rest p le = atom_again s part (reg i) ts rest p
@@ -128,7 +128,7 @@ level_again s most part h (apply3 op a b c) ts rest p le =
     let grouped : ts ++ rest ≡ opened os (us ++ (vs ++ (ws ++ shut rest))) = ap (λ (xs : Tokens). xs ++ rest) p.9 ∙ ap (λ (xs : Tokens). codes "(" ∷ xs) (append_assoc os (us ++ (vs ++ (ws ++ codes ")" ∷ []))) rest ∙ ap (λ (xs : Tokens). os ++ xs) (append_assoc us (vs ++ (ws ++ codes ")" ∷ [])) rest ∙ ap (λ (xs : Tokens). us ++ xs) tail)) in
     ap (level s part) grouped ∙ applied_again s part op os (us ++ (vs ++ (ws ++ shut rest))) p.5 ∙ by_three part op (us ++ (vs ++ (ws ++ shut rest))) p.4 ∙ rw (first, second, third) refl
 
-pub expr_again : (s : Scope) (most : ℕ) (e : Tree) (ts rest : Tokens) → Spells s e ts → depth e ≤ most → expr_at s most (ts ++ rest) ≡ Some (e, rest)
+pub expr_again : (s : Names) (most : ℕ) (e : Tree) (ts rest : Tokens) → Spells s e ts → depth e ≤ most → expr_at s most (ts ++ rest) ≡ Some (e, rest)
 unfolding expr_at Spells
 expr_again s zero (value w n) ts rest p le = first_again s (value w n) ts rest p
 expr_again s zero (reg i) ts rest p le = first_again s (reg i) ts rest p
@@ -157,7 +157,7 @@ chosen true x y z e = inl (refl, e)
 chosen false x y z e = inr (refl, e)
 
 -- the front of ts spells e, and rest comes after it
-pub record Takes (s : Scope) (e : Tree) (ts rest : Tokens) : Type 0 where
+pub record Takes (s : Names) (e : Tree) (ts rest : Tokens) : Type 0 where
   pub front : Tokens
   pub parts : ts ≡ front ++ rest
   pub spelled : Spells s e front
@@ -167,7 +167,7 @@ record TakesOperator (op : Op) (ts rest : Tokens) : Type 0 where
   parts : ts ≡ front ++ rest
   spelled : SpellsOperator op front
 
-abbrev IsSound : Scope → (Tokens → Read Tree) → Type 0
+abbrev IsSound : Names → (Tokens → Read Tree) → Type 0
 IsSound s part = (ts : Tokens) (x : Tree × Tokens) → part ts ≡ Some x → Takes s x.0 ts x.1
 
 closing_takes : (ts us : Tokens) → closing ts ≡ Some us → ts ≡ codes ")" ∷ us
@@ -196,13 +196,6 @@ small_takes (t ∷ ts) x h =
     let p = mapped_some ts (small_of t) x h in
     (t, p.0, ap (λ (us : Tokens). t ∷ us) p.1)
 
--- an operator that is one word
-word_takes : (w t : List ℕ) (op : Op) (ts : Tokens) (x : Op × Tokens) → SpellsOperator op (w ∷ []) → bytes_eq t w ≡ true → Some (op, ts) ≡ Some x → TakesOperator x.0 (t ∷ ts) x.1
-word_takes w t op ts x spelled is h =
-    let p = some_is (op, ts) x h in
-    let made : TakesOperator op (t ∷ ts) ts = record { front = w ∷ []; parts = ap (λ (u : List ℕ). u ∷ ts) ((bytes_eq-Decides t w).0 is); spelled = spelled } in
-    subst (λ (y : Op × Tokens). TakesOperator y.0 (t ∷ ts) y.1) p made
-
 slice_takes : (t : List ℕ) (ts : Tokens) (x : Op × Tokens) → bytes_eq t (codes "slice") ≡ true → slice_at ts ≡ Some x → TakesOperator x.0 (t ∷ ts) x.1
 unfolding slice_at
 slice_takes t ts x is h =
@@ -217,24 +210,66 @@ slice_takes t ts x is h =
     } in
     subst (λ (y : Op × Tokens). TakesOperator y.0 (t ∷ ts) y.1) (some_is (Slice p.0.0 q.0.0, q.0.1) x q.2) made
 
+counted_takes : (w t : List ℕ) (f : ℕ → Op) (ts : Tokens) (x : Op × Tokens) → ((u : List ℕ) (n : ℕ) → small_of u ≡ Some n → SpellsOperator (f n) (w ∷ u ∷ [])) → bytes_eq t w ≡ true → counted_at f ts ≡ Some x → TakesOperator x.0 (t ∷ ts) x.1
+unfolding counted_at
+counted_takes w t f ts x spelled is h =
+    let p = bind_some (small_at ts) (λ n. Some (f n.0, n.1)) x h in
+    let n = small_takes ts p.0 p.1 in
+    let made : TakesOperator (f p.0.0) (t ∷ ts) p.0.1 = record {
+      front = w ∷ n.0 ∷ [];
+      parts = λ i. (bytes_eq-Decides t w).0 is i ∷ n.2 i;
+      spelled = spelled n.0 p.0.0 n.1;
+    } in
+    subst (λ (y : Op × Tokens). TakesOperator y.0 (t ∷ ts) y.1) (some_is (f p.0.0, p.0.1) x p.2) made
+
+-- one word of those that may stand there
+one_word : (w t : List ℕ) (op x : Op) (others : Option Op) → SpellsOperator op (w ∷ []) → (others ≡ Some x → SpellsOperator x (t ∷ [])) → cond (bytes_eq t w) (Some op) others ≡ Some x → SpellsOperator x (t ∷ [])
+one_word w t op x others spelled k h =
+    elim (chosen (bytes_eq t w) (Some op) others (Some x) h) [
+      | inl c ↦ subst (λ (y : Op). SpellsOperator y (t ∷ [])) (some_is op x c.1) (subst (λ (u : List ℕ). SpellsOperator op (u ∷ [])) (sym ((bytes_eq-Decides t w).0 c.0)) spelled)
+      | inr c ↦ k c.1
+    ]
+
+plain_takes : (t : List ℕ) (x : Op) → plain_of t ≡ Some x → SpellsOperator x (t ∷ [])
+unfolding plain_of
+plain_takes t x h =
+    one_word (codes "not") t Not x _ refl
+    (λ h. one_word (codes "and") t And x _ refl
+    (λ h. one_word (codes "or") t Or x _ refl
+    (λ h. one_word (codes "xor") t Xor x _ refl
+    (λ h. one_word (codes "add") t Add x _ refl
+    (λ h. one_word (codes "sub") t Sub x _ refl
+    (λ h. one_word (codes "concat") t Concat x _ refl
+    (λ h. one_word (codes "eq") t Eq x _ refl
+    (λ h. one_word (codes "ltu") t Ltu x _ refl
+    (λ h. one_word (codes "ite") t Ite x _ refl
+    (λ h. absurd cc) h) h) h) h) h) h) h) h) h) h
+
+plain_operator : (t : List ℕ) (ts : Tokens) (o : Option Op) (x : Op × Tokens) → plain_of t ≡ o → option_map (λ op. (op, ts)) o ≡ Some x → TakesOperator x.0 (t ∷ ts) x.1
+plain_operator t ts None x is h = absurd cc
+plain_operator t ts (Some op) x is h =
+    let made : TakesOperator op (t ∷ ts) ts = record { front = t ∷ []; parts = refl; spelled = plain_takes t op is } in
+    subst (λ (y : Op × Tokens). TakesOperator y.0 (t ∷ ts) y.1) (some_is (op, ts) x h) made
+
 operator_takes : (ts : Tokens) (x : Op × Tokens) → operator_at ts ≡ Some x → TakesOperator x.0 ts x.1
 unfolding operator_at
 operator_takes [] x h = absurd cc
 operator_takes (t ∷ ts) x h =
-    elim (chosen (bytes_eq t (codes "add")) (Some (Add, ts)) _ (Some x) h) [
-      | inl c ↦ word_takes (codes "add") t Add ts x refl c.0 c.1
-      | inr c ↦ elim (chosen (bytes_eq t (codes "slice")) (slice_at ts) _ (Some x) c.1) [
-        | inl d ↦ slice_takes t ts x d.0 d.1
-        | inr d ↦ elim (chosen (bytes_eq t (codes "concat")) (Some (Concat, ts)) _ (Some x) d.1) [
-          | inl e ↦ word_takes (codes "concat") t Concat ts x refl e.0 e.1
-          | inr e ↦
-              let g = guard_some (bytes_eq t (codes "eq")) (Some (Eq, ts)) x e.1 in
-              word_takes (codes "eq") t Eq ts x refl g.0 g.1
+    elim (chosen (bytes_eq t (codes "slice")) (slice_at ts) _ (Some x) h) [
+      | inl c ↦ slice_takes t ts x c.0 c.1
+      | inr c ↦ elim (chosen (bytes_eq t (codes "sext")) (counted_at (λ to. SignExt to) ts) _ (Some x) c.1) [
+        | inl d ↦ counted_takes (codes "sext") t (λ to. SignExt to) ts x (λ u n is. (u, is, refl)) d.0 d.1
+        | inr d ↦ elim (chosen (bytes_eq t (codes "shl")) (counted_at (λ by. Shl by) ts) _ (Some x) d.1) [
+          | inl e ↦ counted_takes (codes "shl") t (λ by. Shl by) ts x (λ u n is. (u, is, refl)) e.0 e.1
+          | inr e ↦ elim (chosen (bytes_eq t (codes "shr")) (counted_at (λ by. Shr by) ts) _ (Some x) e.1) [
+            | inl f ↦ counted_takes (codes "shr") t (λ by. Shr by) ts x (λ u n is. (u, is, refl)) f.0 f.1
+            | inr f ↦ plain_operator t ts (plain_of t) x refl f.1
+          ]
         ]
       ]
     ]
 
-one_takes : (s : Scope) (part : Tokens → Read Tree) → IsSound s part → (op : Op) (os ts : Tokens) (x : Tree × Tokens) → arity_of op ≡ 1 → SpellsOperator op os → one_at part op ts ≡ Some x → Takes s x.0 (opened os ts) x.1
+one_takes : (s : Names) (part : Tokens → Read Tree) → IsSound s part → (op : Op) (os ts : Tokens) (x : Tree × Tokens) → arity_of op ≡ 1 → SpellsOperator op os → one_at part op ts ≡ Some x → Takes s x.0 (opened os ts) x.1
 unfolding one_at Spells
 one_takes s part sound op os ts x arity word h =
     let p = bind_some (part ts) (λ a. closed (apply1 op a.0) a.1) x h in
@@ -248,7 +283,7 @@ one_takes s part sound op os ts x arity word h =
     } in
     subst (λ (e : Tree). Takes s e (opened os ts) x.1) c.0 made
 
-two_takes : (s : Scope) (part : Tokens → Read Tree) → IsSound s part → (op : Op) (os ts : Tokens) (x : Tree × Tokens) → arity_of op ≡ 2 → SpellsOperator op os → two_at part op ts ≡ Some x → Takes s x.0 (opened os ts) x.1
+two_takes : (s : Names) (part : Tokens → Read Tree) → IsSound s part → (op : Op) (os ts : Tokens) (x : Tree × Tokens) → arity_of op ≡ 2 → SpellsOperator op os → two_at part op ts ≡ Some x → Takes s x.0 (opened os ts) x.1
 unfolding two_at Spells
 two_takes s part sound op os ts x arity word h =
     let p = bind_some (part ts) (λ a. part a.1 >>= λ b. closed (apply2 op a.0 b.0) b.1) x h in
@@ -267,7 +302,7 @@ two_takes s part sound op os ts x arity word h =
     } in
     subst (λ (e : Tree). Takes s e (opened os ts) x.1) c.0 made
 
-three_takes : (s : Scope) (part : Tokens → Read Tree) → IsSound s part → (op : Op) (os ts : Tokens) (x : Tree × Tokens) → arity_of op ≡ 3 → SpellsOperator op os → three_at part op ts ≡ Some x → Takes s x.0 (opened os ts) x.1
+three_takes : (s : Names) (part : Tokens → Read Tree) → IsSound s part → (op : Op) (os ts : Tokens) (x : Tree × Tokens) → arity_of op ≡ 3 → SpellsOperator op os → three_at part op ts ≡ Some x → Takes s x.0 (opened os ts) x.1
 unfolding three_at Spells
 three_takes s part sound op os ts x arity word h =
     let p = bind_some (part ts) (λ a. part a.1 >>= λ b. part b.1 >>= λ c. closed (apply3 op a.0 b.0 c.0) c.1) x h in
@@ -290,7 +325,7 @@ three_takes s part sound op os ts x arity word h =
     } in
     subst (λ (e : Tree). Takes s e (opened os ts) x.1) d.0 made
 
-operands_take : (s : Scope) (part : Tokens → Read Tree) → IsSound s part → (op : Op) (os ts : Tokens) (x : Tree × Tokens) → SpellsOperator op os → operands_at part op ts ≡ Some x → Takes s x.0 (opened os ts) x.1
+operands_take : (s : Names) (part : Tokens → Read Tree) → IsSound s part → (op : Op) (os ts : Tokens) (x : Tree × Tokens) → SpellsOperator op os → operands_at part op ts ≡ Some x → Takes s x.0 (opened os ts) x.1
 unfolding operands_at
 operands_take s part sound op os ts x word h =
     elim (chosen (eqb (arity_of op) 1) (one_at part op ts) _ (Some x) h) [
@@ -303,7 +338,7 @@ operands_take s part sound op os ts x word h =
       ]
     ]
 
-applied_takes : (s : Scope) (part : Tokens → Read Tree) → IsSound s part → (ts : Tokens) (x : Tree × Tokens) → applied_at part ts ≡ Some x → Takes s x.0 (codes "(" ∷ ts) x.1
+applied_takes : (s : Names) (part : Tokens → Read Tree) → IsSound s part → (ts : Tokens) (x : Tree × Tokens) → applied_at part ts ≡ Some x → Takes s x.0 (codes "(" ∷ ts) x.1
 unfolding applied_at
 applied_takes s part sound ts x h =
     let p = bind_some (operator_at ts) (λ op. operands_at part op.0 op.1) x h in
@@ -322,24 +357,24 @@ or_atom : (f : ℕ → Tree) → ((i : ℕ) → IsAtom (f i)) → (o : Option �
 or_atom f h None t k = k
 or_atom f h (Some i) t k = h i
 
-named_atom : (s : Scope) (n : Name) → IsAtom (named s n)
+named_atom : (s : Names) (n : Name) → IsAtom (named s n)
 unfolding named
 named_atom s n =
-    or_atom (λ i. reg i) (λ i. tt) (position_of s.regs n) _ (or_atom (λ i. input i) (λ i. tt) (position_of s.inputs n) _ (or_atom (λ i. var i) (λ i. tt) (position_of s.vars n) (reg unknown) tt))
+    or_atom (λ i. reg i) (λ i. tt) (s.regs n) _ (or_atom (λ i. input i) (λ i. tt) (s.inputs n) _ (or_atom (λ i. var i) (λ i. tt) (s.vars n) (reg unknown) tt))
 
 constant_atom : (t : List ℕ) → IfSome (constant_of t) IsAtom
 unfolding constant_of
 constant_atom t = bound IsAtom (decimal_of (before_first is_colon t)) _ (λ w _. bound IsAtom (number_of (after_first is_colon t)) _ (λ n _. tt))
 
-either_atom : (s : Scope) (other : Option Tree) (o : Option Name) → IfSome other IsAtom → IfSome (named_or s other o) IsAtom
+either_atom : (s : Names) (other : Option Tree) (o : Option Name) → IfSome other IsAtom → IfSome (named_or s other o) IsAtom
 either_atom s other None h = h
 either_atom s other (Some n) h = named_atom s n
 
-atom_is : (s : Scope) (e : Tree) (t : List ℕ) → atom_of s t ≡ Some e → IsAtom e
+atom_is : (s : Names) (e : Tree) (t : List ℕ) → atom_of s t ≡ Some e → IsAtom e
 unfolding atom_of
 atom_is s e t h = at_some IsAtom (named_or s (constant_of t) (name_of t)) e (either_atom s (constant_of t) (name_of t) (constant_atom t)) h
 
-atom_spells : (s : Scope) (e : Tree) (t : List ℕ) → IsAtom e → atom_of s t ≡ Some e → Spells s e (t ∷ [])
+atom_spells : (s : Names) (e : Tree) (t : List ℕ) → IsAtom e → atom_of s t ≡ Some e → Spells s e (t ∷ [])
 unfolding Spells
 atom_spells s (value w n) t a h = (t, h, refl)
 atom_spells s (reg i) t a h = (t, h, refl)
@@ -349,13 +384,13 @@ atom_spells s (apply1 op x) t a h = absurd a
 atom_spells s (apply2 op x y) t a h = absurd a
 atom_spells s (apply3 op x y z) t a h = absurd a
 
-first_takes : (s : Scope) (ts : Tokens) (x : Tree × Tokens) → first_by (atom_of s) ts ≡ Some x → Takes s x.0 ts x.1
+first_takes : (s : Names) (ts : Tokens) (x : Tree × Tokens) → first_by (atom_of s) ts ≡ Some x → Takes s x.0 ts x.1
 first_takes s [] x h = absurd cc
 first_takes s (t ∷ ts) x h =
     let p = mapped_some ts (atom_of s t) x h in
     record { front = t ∷ []; parts = ap (λ (us : Tokens). t ∷ us) p.1; spelled = atom_spells s x.0 t (atom_is s x.0 t p.0) p.0 }
 
-level_takes : (s : Scope) (part : Tokens → Read Tree) → IsSound s part → IsSound s (level s part)
+level_takes : (s : Names) (part : Tokens → Read Tree) → IsSound s part → IsSound s (level s part)
 unfolding level
 level_takes s part sound [] x h = absurd cc
 level_takes s part sound (t ∷ ts) x h =
@@ -364,7 +399,7 @@ level_takes s part sound (t ∷ ts) x h =
       | inr c ↦ first_takes s (t ∷ ts) x c.1
     ]
 
-pub expr_takes : (s : Scope) (most : ℕ) → IsSound s (expr_at s most)
+pub expr_takes : (s : Names) (most : ℕ) → IsSound s (expr_at s most)
 unfolding expr_at
 expr_takes s zero ts x h = first_takes s ts x h
 expr_takes s (suc most) ts x h = level_takes s (expr_at s most) (expr_takes s most) ts x h

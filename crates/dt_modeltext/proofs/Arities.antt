@@ -1,4 +1,4 @@
--- Each operator that is read has as many operands as it takes.
+-- Each operator that is read has as many operands as it takes, and each declared name is one that a token spells.
 use Rattle.std.proofs.Common.{◌≡◌, ℕ, zero, suc, Bool, true, false, cond, eqb, List, [], ◌∷◌, Option, Some, None, refl}
 use Rattle.std.specs.Prelude.{IfSome, codes, ⊤}
 use Rattle.std.specs.Option.{option_map, option_map_or}
@@ -7,15 +7,17 @@ use Rattle.std.proofs.lemmas.Bool.{eqb-true}
 use Rattle.dt_bits.specs.declared.op.Op.{Op}
 use Rattle.dt_bits.specs.Ops.{arity_of}
 use Rattle.dt_lex.specs.declared.name.Name.{Name}
-use Rattle.dt_lex.specs.Names.{name_of}
+use Rattle.dt_lex.specs.Names.{name_of, IsName}
 use Rattle.dt_lex.specs.Numeral.{number_of}
+use Rattle.dt_lex.proofs.Padded.{name_of_again}
 use Rattle.std.specs.List.{before_first, after_first}
-use Rattle.dt_model.specs.Data.{Tree, reg, input, var, apply1, apply2, apply3}
+use Rattle.dt_model.specs.declared.model.Named.{Named}
+use Rattle.dt_model.specs.Data.{Tree, Spot, reg, input, var, apply1, apply2, apply3}
 use Rattle.dt_model.specs.Limits.{most_depth}
-use Rattle.dt_model.specs.Widths.{Scope, HasArities}
+use Rattle.dt_model.specs.Widths.{HasArities}
 use Rattle.dt_model.specs.Faults.{StepArities}
-use Rattle.dt_modeltext.specs.Expr.{Read, ◌>>=◌, decimal_of, is_colon, unknown, position_of, first_by, small_at, name_at, named, named_or, atom_of, constant_of, closed, closing, is_open, operator_at, one_at, two_at, three_at, operands_at, applied_at, level, expr_at}
-use Rattle.dt_modeltext.specs.Line.{Line, header, word, address, new_reg, new_input, new_var, context_rule, access_rule, new_node, ended, alone, whole, targets_at, read_at, branch_at, fault_at, done_at, step_at, named_at, node_at, header_of, rule_of, spelled}
+use Rattle.dt_modeltext.specs.Expr.{Names, Read, ◌>>=◌, decimal_of, is_colon, unknown, first_by, small_at, name_at, named, named_or, atom_of, constant_of, closed, closing, is_open, operator_at, one_at, two_at, three_at, operands_at, applied_at, level, expr_at}
+use Rattle.dt_modeltext.specs.Line.{Line, header, word, address, new_reg, new_input, new_var, context_rule, access_rule, new_node, ended, alone, whole, targets_at, let_at, read_at, branch_at, fault_at, done_at, step_at, named_at, node_at, header_of, rule_of, spelled}
 
 abbrev Tokens : Type 0
 Tokens = List (List ℕ)
@@ -50,24 +52,24 @@ or_arities : (f : ℕ → Tree) → ((i : ℕ) → HasArities (f i)) → (o : Op
 or_arities f h None t k = k
 or_arities f h (Some i) t k = h i
 
-named_arities : (s : Scope) (n : Name) → HasArities (named s n)
+named_arities : (s : Names) (n : Name) → HasArities (named s n)
 unfolding named
 named_arities s n =
-    or_arities (λ i. reg i) (λ i. tt) (position_of s.regs n) _ (or_arities (λ i. input i) (λ i. tt) (position_of s.inputs n) _ (or_arities (λ i. var i) (λ i. tt) (position_of s.vars n) (reg unknown) tt))
+    or_arities (λ i. reg i) (λ i. tt) (s.regs n) _ (or_arities (λ i. input i) (λ i. tt) (s.inputs n) _ (or_arities (λ i. var i) (λ i. tt) (s.vars n) (reg unknown) tt))
 
 constant_arities : (t : List ℕ) → IfSome (constant_of t) HasArities
 unfolding constant_of
 constant_arities t = bound HasArities (decimal_of (before_first is_colon t)) _ (λ w _. bound HasArities (number_of (after_first is_colon t)) _ (λ n _. tt))
 
-either_arities : (s : Scope) (other : Option Tree) (o : Option Name) → IfSome other HasArities → IfSome (named_or s other o) HasArities
+either_arities : (s : Names) (other : Option Tree) (o : Option Name) → IfSome other HasArities → IfSome (named_or s other o) HasArities
 either_arities s other None h = h
 either_arities s other (Some n) h = named_arities s n
 
-atom_arities : (s : Scope) (t : List ℕ) → IfSome (atom_of s t) HasArities
+atom_arities : (s : Names) (t : List ℕ) → IfSome (atom_of s t) HasArities
 unfolding atom_of
 atom_arities s t = either_arities s (constant_of t) (name_of t) (constant_arities t)
 
-first_arities : (s : Scope) (ts : Tokens) → IfSome (first_by (atom_of s) ts) Whole
+first_arities : (s : Names) (ts : Tokens) → IfSome (first_by (atom_of s) ts) Whole
 first_arities s [] = tt
 first_arities s (t ∷ ts) = mapped Whole (λ x. (x, ts)) (atom_of s t) (λ x is. at_some HasArities (atom_of s t) x (atom_arities s t) is)
 
@@ -102,63 +104,82 @@ applied_arities : (part : Tokens → Read Tree) → IsSound part → (ts : Token
 unfolding applied_at
 applied_arities part sound ts = bound Whole (operator_at ts) _ (λ op _. operands_arities part sound op.0 op.1)
 
-level_arities : (s : Scope) (part : Tokens → Read Tree) → IsSound part → (ts : Tokens) → IfSome (level s part ts) Whole
+level_arities : (s : Names) (part : Tokens → Read Tree) → IsSound part → (ts : Tokens) → IfSome (level s part ts) Whole
 unfolding level
 level_arities s part sound [] = tt
 level_arities s part sound (t ∷ ts) =
     split Whole (is_open t) (applied_at part ts) (first_by (atom_of s) (t ∷ ts)) (λ _. applied_arities part sound ts) (λ _. first_arities s (t ∷ ts))
 
-pub expr_arities : (s : Scope) (depth : ℕ) → IsSound (expr_at s depth)
+pub expr_arities : (s : Names) (depth : ℕ) → IsSound (expr_at s depth)
 unfolding expr_at
 expr_arities s zero ts x h = at_some Whole (first_by (atom_of s) ts) x (first_arities s ts) h
 expr_arities s (suc depth) ts x h = at_some Whole (level s (expr_at s depth) ts) x (level_arities s (expr_at s depth) (expr_arities s depth) ts) h
 
 -- ---- nodes
 
--- ---- nodes
+let_arities : (s : Names) (ts : Tokens) → IfSome (let_at s ts) (λ x. StepArities x.0)
+unfolding let_at
+let_arities s ts =
+    bound _ (name_at ts) _ (λ v _. bound _ (expr_at s most_depth v.1) _ (λ e is. bound _ (name_at e.1) _ (λ n _. expr_arities s most_depth v.1 e is)))
 
-read_arities : (s : Scope) (nodes : List Name) (ts : Tokens) → IfSome (read_at s nodes ts) (λ x. StepArities x.0)
+read_arities : (s : Names) (ts : Tokens) → IfSome (read_at s ts) (λ x. StepArities x.0)
 unfolding read_at
-read_arities s nodes ts =
-    bound _ (name_at ts) _ (λ v _. bound _ (expr_at s most_depth v.1) _ (λ e is. bound _ (small_at e.1) _ (λ g _. bound _ (targets_at nodes g.1) _ (λ to _. expr_arities s most_depth v.1 e is))))
+read_arities s ts =
+    bound _ (name_at ts) _ (λ v _. bound _ (expr_at s most_depth v.1) _ (λ e is. bound _ (small_at e.1) _ (λ g _. bound _ (targets_at s g.1) _ (λ to _. expr_arities s most_depth v.1 e is))))
 
-branch_arities : (s : Scope) (nodes : List Name) (ts : Tokens) → IfSome (branch_at s nodes ts) (λ x. StepArities x.0)
+branch_arities : (s : Names) (ts : Tokens) → IfSome (branch_at s ts) (λ x. StepArities x.0)
 unfolding branch_at
-branch_arities s nodes ts =
-    bound _ (expr_at s most_depth ts) _ (λ e is. bound _ (targets_at nodes e.1) _ (λ to _. expr_arities s most_depth ts e is))
+branch_arities s ts =
+    bound _ (expr_at s most_depth ts) _ (λ e is. bound _ (targets_at s e.1) _ (λ to _. expr_arities s most_depth ts e is))
 
 fault_arities : (ts : Tokens) → IfSome (fault_at ts) (λ x. StepArities x.0)
 unfolding fault_at
 fault_arities ts = bound _ (small_at ts) _ (λ c _. tt)
 
-done_arities : (s : Scope) (ts : Tokens) → IfSome (done_at s ts) (λ x. StepArities x.0)
+done_arities : (s : Names) (ts : Tokens) → IfSome (done_at s ts) (λ x. StepArities x.0)
 unfolding done_at
 done_arities s ts =
     bound _ (expr_at s most_depth ts) _ (λ e is. bound _ (small_at e.1) _ (λ p _. expr_arities s most_depth ts e is))
 
-step_arities : (s : Scope) (nodes : List Name) (ts : Tokens) → IfSome (step_at s nodes ts) (λ x. StepArities x.0)
+step_arities : (s : Names) (ts : Tokens) → IfSome (step_at s ts) (λ x. StepArities x.0)
 unfolding step_at
-step_arities s nodes [] = tt
-step_arities s nodes (t ∷ ts) =
-    split _ (bytes_eq t (codes "read")) _ _ (λ _. read_arities s nodes ts)
-    (λ _. split _ (bytes_eq t (codes "if")) _ _ (λ _. branch_arities s nodes ts)
+step_arities s [] = tt
+step_arities s (t ∷ ts) =
+    split _ (bytes_eq t (codes "let")) _ _ (λ _. let_arities s ts)
+    (λ _. split _ (bytes_eq t (codes "read")) _ _ (λ _. read_arities s ts)
+    (λ _. split _ (bytes_eq t (codes "if")) _ _ (λ _. branch_arities s ts)
     (λ _. split _ (bytes_eq t (codes "fault")) _ _ (λ _. fault_arities ts)
-    (λ _. split _ (bytes_eq t (codes "done")) _ _ (λ _. done_arities s ts) (λ _. tt))))
+    (λ _. split _ (bytes_eq t (codes "done")) _ _ (λ _. done_arities s ts) (λ _. tt)))))
 
-node_arities : (s : Scope) (nodes : List Name) (ts : Tokens) → IfSome (node_at s nodes ts) (λ x. StepArities x.0.step)
+first_spelled : (ts : Tokens) → IfSome (name_at ts) (λ x. IsName x.0)
+first_spelled [] = tt
+first_spelled (t ∷ ts) = mapped (λ x. IsName x.0) (λ n. (n, ts)) (name_of t) (λ n is. name_of_again t n is)
+
+abbrev SpotSound : Spot → Type 0
+SpotSound n = IsName n.name × StepArities n.step
+
+node_arities : (s : Names) (ts : Tokens) → IfSome (node_at s ts) (λ x. SpotSound x.0)
 unfolding node_at
-node_arities s nodes ts =
-    bound _ (name_at ts) _ (λ n _. bound _ (step_at s nodes n.1) _ (λ a is. at_some (λ x. StepArities x.0) (step_at s nodes n.1) a (step_arities s nodes n.1) is))
+node_arities s ts =
+    bound _ (name_at ts) _ (λ n at. bound _ (step_at s n.1) _ (λ a is. (at_some (λ x. IsName x.0) (name_at ts) n (first_spelled ts) at, at_some (λ x. StepArities x.0) (step_at s n.1) a (step_arities s n.1) is)))
+
+named_spelled : (ts : Tokens) → IfSome (named_at ts) (λ x. IsName x.0.name)
+unfolding named_at
+named_spelled ts =
+    bound _ (name_at ts) _ (λ n at. bound _ (small_at n.1) _ (λ w is. at_some (λ x. IsName x.0) (name_at ts) n (first_spelled ts) at))
 
 -- ---- lines
 
-abbrev pub LineArities : Line → Type 0
-LineArities (context_rule e) = HasArities e
-LineArities (access_rule e) = HasArities e
-LineArities (new_node n) = StepArities n.step
-LineArities _ = ⊤
+abbrev pub LineHolds : Line → Type 0
+LineHolds (context_rule e) = HasArities e
+LineHolds (access_rule e) = HasArities e
+LineHolds (new_node n) = SpotSound n
+LineHolds (new_reg n) = IsName n.name
+LineHolds (new_input n) = IsName n.name
+LineHolds (new_var n) = IsName n.name
+LineHolds _ = ⊤
 
-alone_arities : (l : Line) (ts : Tokens) → LineArities l → IfSome (alone l ts) LineArities
+alone_arities : (l : Line) (ts : Tokens) → LineHolds l → IfSome (alone l ts) LineHolds
 alone_arities l [] h = h
 alone_arities l (t ∷ ts) h = tt
 
@@ -166,34 +187,41 @@ alone_is : {X : Type 0} (P : X → Type 0) (x : X) (ts : Tokens) → P x → IfS
 alone_is P x [] h = h
 alone_is P x (t ∷ ts) h = tt
 
-header_arities : (ts : Tokens) → IfSome (header_of ts) LineArities
+header_arities : (ts : Tokens) → IfSome (header_of ts) LineHolds
 header_arities [] = tt
-header_arities (t ∷ ts) = split LineArities (bytes_eq t (codes "1")) (alone header ts) None (λ _. alone_arities header ts tt) (λ _. tt)
+header_arities (t ∷ ts) = split LineHolds (bytes_eq t (codes "1")) (alone header ts) None (λ _. alone_arities header ts tt) (λ _. tt)
 
-whole_expr : (s : Scope) (ts : Tokens) → IfSome (whole (expr_at s most_depth ts)) HasArities
+whole_expr : (s : Names) (ts : Tokens) → IfSome (whole (expr_at s most_depth ts)) HasArities
 whole_expr s ts =
     bound _ (expr_at s most_depth ts) _ (λ x is. alone_is HasArities x.0 x.1 (expr_arities s most_depth ts x is))
 
-rule_arities : (s : Scope) (ts : Tokens) → IfSome (rule_of s ts) LineArities
+rule_arities : (s : Names) (ts : Tokens) → IfSome (rule_of s ts) LineHolds
 unfolding rule_of
 rule_arities s [] = tt
 rule_arities s (t ∷ ts) =
-    split LineArities (bytes_eq t (codes "context")) _ _ (λ _. mapped LineArities (λ e. context_rule e) (whole (expr_at s most_depth ts)) (λ e is. at_some HasArities (whole (expr_at s most_depth ts)) e (whole_expr s ts) is))
-    (λ _. split LineArities (bytes_eq t (codes "access")) _ _ (λ _. mapped LineArities (λ e. access_rule e) (whole (expr_at s most_depth ts)) (λ e is. at_some HasArities (whole (expr_at s most_depth ts)) e (whole_expr s ts) is)) (λ _. tt))
+    split LineHolds (bytes_eq t (codes "context")) _ _ (λ _. mapped LineHolds (λ e. context_rule e) (whole (expr_at s most_depth ts)) (λ e is. at_some HasArities (whole (expr_at s most_depth ts)) e (whole_expr s ts) is))
+    (λ _. split LineHolds (bytes_eq t (codes "access")) _ _ (λ _. mapped LineHolds (λ e. access_rule e) (whole (expr_at s most_depth ts)) (λ e is. at_some HasArities (whole (expr_at s most_depth ts)) e (whole_expr s ts) is)) (λ _. tt))
 
-whole_node : (s : Scope) (nodes : List Name) (ts : Tokens) → IfSome (whole (node_at s nodes ts)) (λ n. StepArities n.step)
-whole_node s nodes ts =
-    bound _ (node_at s nodes ts) _ (λ x is. alone_is (λ n. StepArities n.step) x.0 x.1 (at_some (λ y. StepArities y.0.step) (node_at s nodes ts) x (node_arities s nodes ts) is))
+whole_node : (s : Names) (ts : Tokens) → IfSome (whole (node_at s ts)) SpotSound
+whole_node s ts =
+    bound _ (node_at s ts) _ (λ x is. alone_is SpotSound x.0 x.1 (at_some (λ y. SpotSound y.0) (node_at s ts) x (node_arities s ts) is))
 
-pub spelled_arities : (s : Scope) (nodes : List Name) (t : List ℕ) (ts : Tokens) → IfSome (spelled s nodes t ts) LineArities
+whole_named : (ts : Tokens) → IfSome (whole (named_at ts)) (λ n. IsName n.name)
+whole_named ts =
+    bound _ (named_at ts) _ (λ x is. alone_is (λ n. IsName n.name) x.0 x.1 (at_some (λ y. IsName y.0.name) (named_at ts) x (named_spelled ts) is))
+
+named_line : (f : Named → Line) → ((n : Named) → IsName n.name → LineHolds (f n)) → (ts : Tokens) → IfSome (option_map f (whole (named_at ts))) LineHolds
+named_line f h ts = mapped LineHolds f (whole (named_at ts)) (λ n is. h n (at_some (λ m. IsName m.name) (whole (named_at ts)) n (whole_named ts) is))
+
+pub spelled_arities : (s : Names) (t : List ℕ) (ts : Tokens) → IfSome (spelled s t ts) LineHolds
 unfolding spelled
-spelled_arities s nodes t ts =
-    split LineArities (bytes_eq t (codes "model")) _ _ (λ _. header_arities ts)
-    (λ _. split LineArities (bytes_eq t (codes "word")) _ _ (λ _. mapped LineArities (λ w. word w) (whole (small_at ts)) (λ _ _. tt))
-    (λ _. split LineArities (bytes_eq t (codes "address")) _ _ (λ _. mapped LineArities (λ a. address a) (whole (small_at ts)) (λ _ _. tt))
-    (λ _. split LineArities (bytes_eq t (codes "reg")) _ _ (λ _. mapped LineArities (λ n. new_reg n) (whole (named_at ts)) (λ _ _. tt))
-    (λ _. split LineArities (bytes_eq t (codes "input")) _ _ (λ _. mapped LineArities (λ n. new_input n) (whole (named_at ts)) (λ _ _. tt))
-    (λ _. split LineArities (bytes_eq t (codes "var")) _ _ (λ _. mapped LineArities (λ n. new_var n) (whole (named_at ts)) (λ _ _. tt))
-    (λ _. split LineArities (bytes_eq t (codes "legal")) _ _ (λ _. rule_arities s ts)
-    (λ _. split LineArities (bytes_eq t (codes "node")) _ _ (λ _. mapped LineArities (λ n. new_node n) (whole (node_at s nodes ts)) (λ n is. at_some (λ m. StepArities m.step) (whole (node_at s nodes ts)) n (whole_node s nodes ts) is))
-    (λ _. split LineArities (bytes_eq t (codes "end")) _ _ (λ _. alone_arities ended ts tt) (λ _. tt)))))))))
+spelled_arities s t ts =
+    split LineHolds (bytes_eq t (codes "model")) _ _ (λ _. header_arities ts)
+    (λ _. split LineHolds (bytes_eq t (codes "word")) _ _ (λ _. mapped LineHolds (λ w. word w) (whole (small_at ts)) (λ _ _. tt))
+    (λ _. split LineHolds (bytes_eq t (codes "address")) _ _ (λ _. mapped LineHolds (λ a. address a) (whole (small_at ts)) (λ _ _. tt))
+    (λ _. split LineHolds (bytes_eq t (codes "reg")) _ _ (λ _. named_line (λ n. new_reg n) (λ n h. h) ts)
+    (λ _. split LineHolds (bytes_eq t (codes "input")) _ _ (λ _. named_line (λ n. new_input n) (λ n h. h) ts)
+    (λ _. split LineHolds (bytes_eq t (codes "var")) _ _ (λ _. named_line (λ n. new_var n) (λ n h. h) ts)
+    (λ _. split LineHolds (bytes_eq t (codes "legal")) _ _ (λ _. rule_arities s ts)
+    (λ _. split LineHolds (bytes_eq t (codes "node")) _ _ (λ _. mapped LineHolds (λ n. new_node n) (whole (node_at s ts)) (λ n is. at_some SpotSound (whole (node_at s ts)) n (whole_node s ts) is))
+    (λ _. split LineHolds (bytes_eq t (codes "end")) _ _ (λ _. alone_arities ended ts tt) (λ _. tt)))))))))

@@ -7,7 +7,7 @@ use Rattle.std.proofs.lemmas.List.{drop_all, take_all}
 abbrev at : {X : Type 0} → (X → Bool) → List X → ℕ
 at p xs = position_or_len p xs
 
-found : {X : Type 0} (p : X → Bool) (xs : List X) (i : ℕ) → position p xs ≡ Some i → (at p xs ≡ i) × (i < length xs)
+pub found : {X : Type 0} (p : X → Bool) (xs : List X) (i : ℕ) → position p xs ≡ Some i → (at p xs ≡ i) × (i < length xs)
 found p xs i e =
     elim (cases_Bool (ltb (at p xs) (length xs))) [
       | inl is ↦
@@ -17,7 +17,7 @@ found p xs i e =
       | inr isnt ↦ let bad : Some i ≡ None = sym (rw isnt at e) in absurd cc
     ]
 
-missing : {X : Type 0} (p : X → Bool) (xs : List X) → position p xs ≡ None → length xs ≤ at p xs
+pub missing : {X : Type 0} (p : X → Bool) (xs : List X) → position p xs ≡ None → length xs ≤ at p xs
 missing p xs e =
     elim (cases_Bool (ltb (at p xs) (length xs))) [
       | inl is ↦ let bad : Some (at p xs) ≡ None = rw is at e in absurd cc

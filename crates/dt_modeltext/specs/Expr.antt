@@ -1,17 +1,15 @@
 -- Expressions as tokens: a name, a constant W:N, or an operator and its operands in parentheses.
-use Rattle.std.specs.Prelude.{ℕ, zero, suc, ◌-◌, ◌^◌, ◌==◌, Bool, nat_lt, List, [], ◌∷◌, Option, Some, None, position, codes, if◌then◌else◌}
+use Rattle.std.specs.Prelude.{ℕ, zero, suc, ◌-◌, ◌^◌, ◌==◌, Bool, nat_lt, List, [], ◌∷◌, Option, Some, None, codes, if◌then◌else◌}
 use Rattle.std.specs.List.{before_first, after_first}
 use Rattle.std.specs.Option.{option_map, option_map_or}
 use Rattle.std.specs.Str.{bytes_eq}
 use Rattle.dt_bits.specs.declared.op.Op.{Op}
-use Rattle.dt_bits.specs.declared.op.Op.TheVariants.{Add, Slice, Concat, Eq}
+use Rattle.dt_bits.specs.declared.op.Op.TheVariants.{Not, And, Or, Xor, Add, Sub, Slice, Concat, SignExt, Shl, Shr, Eq, Ltu, Ite}
 use Rattle.dt_bits.specs.Ops.{arity_of}
 use Rattle.dt_lex.specs.declared.name.Name.{Name}
-use Rattle.dt_lex.specs.Names.{name_of, same_name}
+use Rattle.dt_lex.specs.Names.{name_of}
 use Rattle.dt_lex.specs.Numeral.{is_hex, number_of}
-use Rattle.dt_model.specs.declared.model.Named.{Named}
 use Rattle.dt_model.specs.Data.{Tree, value, reg, input, var, apply1, apply2, apply3}
-use Rattle.dt_model.specs.Widths.{Scope}
 
 infixl 10 ◌>>=◌
 abbrev pub ◌>>=◌ : {A B : Type 0} → Option A → (A → Option B) → Option B
@@ -45,20 +43,23 @@ constant_of t = do
 abbrev pub unknown : ℕ
 unknown = 2 ^ 32 - 1
 
--- the first of the names that is this one
-abbrev pub position_of : List Named → Name → Option ℕ
-position_of names n = position (λ m. same_name m.name n) names
+-- the positions that names have as registers, inputs, variables and nodes
+pub record Names : Type 0 where
+  pub regs : Name → Option ℕ
+  pub inputs : Name → Option ℕ
+  pub vars : Name → Option ℕ
+  pub nodes : Name → Option ℕ
 
 -- a register, else an input, else a variable; a name that isn't declared is read as the register at no position
-unfoldable pub named : Scope → Name → Tree
-named s n = option_map_or reg (position_of s.regs n) (option_map_or input (position_of s.inputs n) (option_map_or var (position_of s.vars n) (reg unknown)))
+unfoldable pub named : Names → Name → Tree
+named s n = option_map_or reg (s.regs n) (option_map_or input (s.inputs n) (option_map_or var (s.vars n) (reg unknown)))
 
 -- a name, or else a constant
-abbrev pub named_or : Scope → Option Tree → Option Name → Option Tree
+abbrev pub named_or : Names → Option Tree → Option Name → Option Tree
 named_or s other None = other
 named_or s other (Some n) = Some (named s n)
 
-unfoldable pub atom_of : Scope → List ℕ → Option Tree
+unfoldable pub atom_of : Names → List ℕ → Option Tree
 atom_of s t = named_or s (constant_of t) (name_of t)
 
 -- ---- tokens from the front
@@ -96,15 +97,36 @@ slice_at ts = do
   lo ← small_at hi.1
   Some (Slice hi.0 lo.0, lo.1)
 
+-- an operator with one number
+unfoldable pub counted_at : (ℕ → Op) → List (List ℕ) → Read Op
+counted_at f ts = do
+  n ← small_at ts
+  Some (f n.0, n.1)
+
+-- an operator of one word
+unfoldable pub plain_of : List ℕ → Option Op
+plain_of t =
+    if bytes_eq t (codes "not") then Some Not
+    else (if bytes_eq t (codes "and") then Some And
+    else (if bytes_eq t (codes "or") then Some Or
+    else (if bytes_eq t (codes "xor") then Some Xor
+    else (if bytes_eq t (codes "add") then Some Add
+    else (if bytes_eq t (codes "sub") then Some Sub
+    else (if bytes_eq t (codes "concat") then Some Concat
+    else (if bytes_eq t (codes "eq") then Some Eq
+    else (if bytes_eq t (codes "ltu") then Some Ltu
+    else (if bytes_eq t (codes "ite") then Some Ite
+    else None)))))))))
+
 -- an operator, with its numbers
 unfoldable pub operator_at : List (List ℕ) → Read Op
 operator_at [] = None
 operator_at (t ∷ ts) =
-    if bytes_eq t (codes "add") then Some (Add, ts)
-    else (if bytes_eq t (codes "slice") then slice_at ts
-    else (if bytes_eq t (codes "concat") then Some (Concat, ts)
-    else (if bytes_eq t (codes "eq") then Some (Eq, ts)
-    else None)))
+    if bytes_eq t (codes "slice") then slice_at ts
+    else (if bytes_eq t (codes "sext") then counted_at (λ to. SignExt to) ts
+    else (if bytes_eq t (codes "shl") then counted_at (λ by. Shl by) ts
+    else (if bytes_eq t (codes "shr") then counted_at (λ by. Shr by) ts
+    else option_map (λ op. (op, ts)) (plain_of t))))
 
 -- ---- operands, each of which is read by part, and the closing parenthesis
 
@@ -142,11 +164,11 @@ applied_at part ts = do
 
 -- ---- expressions
 
-unfoldable pub level : Scope → (List (List ℕ) → Read Tree) → List (List ℕ) → Read Tree
+unfoldable pub level : Names → (List (List ℕ) → Read Tree) → List (List ℕ) → Read Tree
 level s part [] = None
 level s part (t ∷ ts) = if is_open t then applied_at part ts else first_by (atom_of s) (t ∷ ts)
 
 -- an expression of names in scope, with at most so many operators on one way from its root
-unfoldable pub expr_at : Scope → ℕ → List (List ℕ) → Read Tree
+unfoldable pub expr_at : Names → ℕ → List (List ℕ) → Read Tree
 expr_at s zero = first_by (atom_of s)
 expr_at s (suc depth) = level s (expr_at s depth)

@@ -1,16 +1,22 @@
 -- Which lines may follow which, and the model that they give.
-use Rattle.std.specs.Prelude.{◌≡◌, ℕ, ◌+◌, ◌==◌, nat_lt, nat_le, Bool, true, false, ◌&&◌, List, [], ◌∷◌, length, map, Option, Some, None, Result, Ok, Err, if◌then◌else◌}
+use Rattle.std.specs.Prelude.{◌≡◌, ℕ, ◌+◌, ◌==◌, nat_lt, nat_le, Bool, true, false, ◌&&◌, ◌⊎◌, List, [], ◌∷◌, map, position, slice_index, Option, Some, None, Result, Ok, Err, if◌then◌else◌}
 use Rattle.std.specs.List.{flat_map}
 use Rattle.dt_lex.specs.declared.name.Name.{Name}
 use Rattle.dt_lex.specs.declared.fault.LexFault.TheVariants as lexical
-use Rattle.dt_lex.specs.Text.{lines_of, is_thin}
-use Rattle.dt_lex.specs.Reading.{Grammar, ◌>>=◌, entries_of}
+use Rattle.dt_lex.specs.Names.{same_name}
+use Rattle.dt_lex.specs.Text.{lines_of}
+use Rattle.dt_lex.specs.Reading.{last_of, Grammar, ◌>>=◌, reading_of}
 use Rattle.dt_model.specs.declared.model.Named.{Named}
+use Rattle.dt_model.specs.declared.refusal.ModelRefusal.{ModelRefusal}
+use Rattle.dt_model.specs.declared.refusal.ModelRefusal.TheVariants.{TooDeep}
+use Rattle.dt_model.specs.declared.refusal.Place.{Place}
+use Rattle.dt_model.specs.declared.refusal.Place.TheVariants.{Header, Reg, Input, Var, LegalContext, LegalAccess, Node}
 use Rattle.dt_model.specs.Data.{Tree, Spot, Data}
-use Rattle.dt_model.specs.Faults.{IsAccepted, IsRefused, node_scope}
+use Rattle.dt_model.specs.Faults.{IsAccepted, IsRefused, names_of}
 use Rattle.dt_modeltext.specs.declared.fault.ModelFault.{ModelFault}
 use Rattle.dt_modeltext.specs.declared.fault.ModelFault.TheVariants as faults
-use Rattle.dt_modeltext.specs.Limits.{thin_names, thin_rules, thin_nodes}
+use Rattle.dt_modeltext.specs.Expr.{Names}
+use Rattle.dt_modeltext.specs.Depth.{is_too_deep}
 use Rattle.dt_modeltext.specs.Line.{Line, header, word, address, new_reg, new_input, new_var, context_rule, access_rule, new_node, ended, node_names, spelled}
 
 -- ---- what lines declare
@@ -27,11 +33,6 @@ rank (context_rule e) = 7
 rank (access_rule e) = 8
 rank (new_node n) = 9
 rank ended = 10
-
--- the last of a list, or d
-abbrev pub last_of : {X : Type 0} → X → List X → X
-last_of d [] = d
-last_of d (x ∷ xs) = last_of x xs
 
 abbrev pub word_in : Line → List ℕ
 word_in (word w) = w ∷ []
@@ -65,25 +66,76 @@ abbrev pub node_in : Line → List Spot
 node_in (new_node n) = n ∷ []
 node_in _ = []
 
--- what lines declare, and the rank of the last of them
+-- a line, and its number
+pub record Numbered : Type 0 where
+  pub number : ℕ
+  pub line : Line
+
+-- all of one kind that lines declare
+abbrev pub items : {X : Type 0} → (Line → List X) → List Numbered → List X
+items f es = flat_map (λ e. f e.line) es
+
+-- the numbers of the lines that declare them
+abbrev pub numbers : {X : Type 0} → (Line → List X) → List Numbered → List ℕ
+numbers f es = flat_map (λ e. map (λ x. e.number) (f e.line)) es
+
+-- the numbers of the lines that declare each of a model's parts
+pub record Origins : Type 0 where
+  pub regs : List ℕ
+  pub inputs : List ℕ
+  pub vars : List ℕ
+  pub legal_context : List ℕ
+  pub legal_access : List ℕ
+  pub nodes : List ℕ
+
+-- what lines declare and where, and the rank of the last of them
 pub record Declared : Type 0 where
   pub place : ℕ
   pub model : Data
+  pub origins : Origins
 
-unfoldable pub declared : List Line → Declared
-declared ls = record {
-  place = last_of 0 (map rank ls);
+unfoldable pub declared : List Numbered → Declared
+declared es = record {
+  place = last_of 0 (map (λ e. rank e.line) es);
   model = record {
-    word = last_of 0 (flat_map word_in ls);
-    address = last_of 0 (flat_map address_in ls);
-    regs = flat_map reg_in ls;
-    inputs = flat_map input_in ls;
-    vars = flat_map var_in ls;
-    legal_context = flat_map context_rule_in ls;
-    legal_access = flat_map access_rule_in ls;
-    nodes = flat_map node_in ls;
+    word = last_of 0 (items word_in es);
+    address = last_of 0 (items address_in es);
+    regs = items reg_in es;
+    inputs = items input_in es;
+    vars = items var_in es;
+    legal_context = items context_rule_in es;
+    legal_access = items access_rule_in es;
+    nodes = items node_in es;
+  };
+  origins = record {
+    regs = numbers reg_in es;
+    inputs = numbers input_in es;
+    vars = numbers var_in es;
+    legal_context = numbers context_rule_in es;
+    legal_access = numbers access_rule_in es;
+    nodes = numbers node_in es;
   };
 }
+
+-- the line of a place; the header is line 1
+abbrev pub line_of : Origins → Place → ℕ
+line_of o Header = 1
+line_of o (Reg i) = slice_index o.regs i
+line_of o (Input i) = slice_index o.inputs i
+line_of o (Var i) = slice_index o.vars i
+line_of o (LegalContext i) = slice_index o.legal_context i
+line_of o (LegalAccess i) = slice_index o.legal_access i
+line_of o (Node i) = slice_index o.nodes i
+
+-- ---- what names stand for
+
+-- the position of the first of the names that is this one
+abbrev pub first_named : List Name → Name → Option ℕ
+first_named names n = position (same_name n) names
+
+-- a line may name what the lines before it declare, and all nodes
+abbrev pub names_in : List Name → Data → Names
+names_in nodes d = record { regs = first_named (names_of d.regs); inputs = first_named (names_of d.inputs); vars = first_named (names_of d.vars); nodes = first_named nodes }
 
 -- ---- which lines may stand where
 
@@ -91,62 +143,49 @@ declared ls = record {
 abbrev pub may_follow : ℕ → ℕ → Bool
 may_follow n m = if nat_lt n 3 then m == n + 1 else (nat_lt n 10 && nat_le 4 m && nat_le n m)
 
--- one more line of its kind is within the limits of a thin text
-abbrev pub has_room : Data → Line → Bool
-has_room d header = true
-has_room d (word w) = true
-has_room d (address a) = true
-has_room d (new_reg n) = nat_lt (length d.regs) thin_names
-has_room d (new_input n) = nat_lt (length d.inputs) thin_names
-has_room d (new_var n) = nat_lt (length d.vars) thin_names
-has_room d (context_rule e) = nat_lt (length d.legal_context) thin_rules
-has_room d (access_rule e) = nat_lt (length d.legal_access) thin_rules
-has_room d (new_node n) = nat_lt (length d.nodes) thin_nodes
-has_room d ended = true
-
-unfoldable pub may_stand : Declared → Line → Bool
-may_stand d l = may_follow d.place (rank l) && has_room d.model l
-
 -- ---- the reading
 
-abbrev pub judged : ℕ → Declared → Option Line → Result Line ModelFault
+abbrev pub judged : ℕ → Declared → Option Line → Result Numbered ModelFault
 judged n d None = Err (faults.Form n)
-judged n d (Some l) = if may_stand d l then Ok l else Err (faults.Form n)
+judged n d (Some l) = if may_follow d.place (rank l) then Ok (record { number = n; line = l }) else Err (faults.Form n)
 
--- a line may name what the lines before declare, and all nodes
-abbrev pub row : List Name → ℕ → Declared → List (List ℕ) → Result Line ModelFault
+-- the n-th line, which has these tokens, after what was declared: too deep is looked for before all else
+abbrev pub row : List Name → ℕ → Declared → List (List ℕ) → Result Numbered ModelFault
 row nodes n d [] = Err (faults.Form n)
-row nodes n d (t ∷ ts) = judged n d (spelled (node_scope d.model) nodes t ts)
+row nodes n d (t ∷ ts) = if is_too_deep (t ∷ ts) then Err (faults.Refused TooDeep n) else judged n d (spelled (names_in nodes d.model) t ts)
 
-abbrev pub grammar : List Name → Grammar Line Declared ModelFault
+abbrev pub grammar : List Name → Grammar Numbered Declared ModelFault
 grammar nodes = record { lexical = λ e. faults.Lex e; declared = declared; entry = row nodes }
 
 -- the lines have come to an end, before the n-th
-abbrev pub finished : ℕ → Declared → Result Data ModelFault
-finished n d = if d.place == 10 then Ok d.model else Err (faults.Form n)
+abbrev pub finished : ℕ → Declared → Result Declared ModelFault
+finished n d = if d.place == 10 then Ok d else Err (faults.Form n)
 
--- the model that the lines of a text spell, or the first bad line
-unfoldable pub reading : List ℕ → Result Data ModelFault
-reading text = entries_of (grammar (node_names (lines_of text))) text >>= λ ls. finished (length (lines_of text) + 1) (declared ls)
+-- what the lines of a text declare, or the first bad line
+unfoldable pub reading : List ℕ → Result Declared ModelFault
+reading text = reading_of (grammar (node_names (lines_of text))) finished text
 
 -- the model that a text spells, checked or not
 abbrev pub model_in : List ℕ → Result Data ModelFault
-model_in text = if is_thin text then reading text else Err faults.NotThin
+model_in text = reading text >>= λ d. Ok d.model
 
--- a thin text of an accepted model
+-- a text of an accepted model
 pub record IsModelText (text : List ℕ) (d : Data) : Type 0 where
   pub spelled : model_in text ≡ Ok d
   pub accepted : IsAccepted d
 
+-- no line is bad, and the check refuses the model at a place that the n-th line declares
+abbrev pub IsRefusedAt : List ℕ → ModelRefusal → ℕ → Type 0
+IsRefusedAt text r n = (d : Declared) × (p : Place) × (reading text ≡ Ok d) × IsRefused d.model p r × (n ≡ line_of d.origins p)
+
 -- the text is refused so; want of memory says nothing of it, and a lexical fault is never one
 abbrev pub RefusesText : List ℕ → ModelFault → Type 0
 RefusesText text faults.Memory = Unit {0}
-RefusesText text faults.NotThin = model_in text ≡ Err faults.NotThin
 RefusesText text (faults.Lex lexical.Memory) = ⊥
-RefusesText text (faults.Lex (lexical.LineTooLong n)) = model_in text ≡ Err (faults.Lex (lexical.LineTooLong n))
-RefusesText text (faults.Lex (lexical.BadByte n)) = model_in text ≡ Err (faults.Lex (lexical.BadByte n))
-RefusesText text (faults.Form n) = model_in text ≡ Err (faults.Form n)
-RefusesText text (faults.Refused r p) = (d : Data) × (model_in text ≡ Ok d) × IsRefused d p r
+RefusesText text (faults.Lex (lexical.LineTooLong n)) = reading text ≡ Err (faults.Lex (lexical.LineTooLong n))
+RefusesText text (faults.Lex (lexical.BadByte n)) = reading text ≡ Err (faults.Lex (lexical.BadByte n))
+RefusesText text (faults.Form n) = reading text ≡ Err (faults.Form n)
+RefusesText text (faults.Refused r n) = ((r ≡ TooDeep) × (reading text ≡ Err (faults.Refused r n))) ⊎ IsRefusedAt text r n
 
 abbrev pub is_memory : ModelFault → Bool
 is_memory faults.Memory = true

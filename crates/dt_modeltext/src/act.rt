@@ -3,12 +3,12 @@ ghost use Rattle.std.specs.Option.{option_map};
 ghost use Rattle.dt_lex.specs.Text.{tokens_of};
 ghost use Rattle.dt_model.specs.Data.{step_of};
 ghost use Rattle.dt_model.specs.Limits.{most_depth};
-ghost use Rattle.dt_modeltext.specs.Line.{targets_at, read_at, branch_at, fault_at, done_at, step_at};
-ghost use Rattle.dt_modeltext.specs.Code.{scope_of};
+ghost use Rattle.dt_modeltext.specs.Line.{targets_at, let_at, read_at, branch_at, fault_at, done_at, step_at};
+ghost use Rattle.dt_modeltext.specs.Code.{known_names};
 
+use crate::depth::MAX_DEPTH;
 use crate::expr::read_expr;
 use crate::known::Known;
-use crate::limits::MAX_DEPTH;
 use crate::token::{name_at, small_at, target, variable};
 use dt_lex::next_token;
 use dt_model::Act;
@@ -18,7 +18,7 @@ use std::alloc::{AllocError, Global};
 #[tactic(auto, unfolding(crate::specs::Line::targets_at))]
 fn targets_at<'a>(known: &Known, tokens: &'a [u8]) -> Option<((u32, u32), &'a [u8])>
     ensures { option_map (λ x. (x.0, tokens_of x.1.now)) result
-        ≡ targets_at known.now.nodes.now (tokens_of tokens.now) }
+        ≡ targets_at (known_names known.now) (tokens_of tokens.now) }
 {
     match name_at(tokens) {
         None => None,
@@ -31,6 +31,32 @@ fn targets_at<'a>(known: &Known, tokens: &'a [u8]) -> Option<((u32, u32), &'a [u
     }
 }
 
+/// `VAR EXPR NEXT`.
+#[tactic(auto, unfolding(crate::specs::Line::let_at))]
+fn let_at<'a>(
+    alloc: Global,
+    known: &Known,
+    tokens: &'a [u8],
+) -> Result<Option<(Act, &'a [u8])>, AllocError>
+    ensures { IfOk result (λ o. option_map (λ x. (step_of x.0, tokens_of x.1.now)) o
+        ≡ let_at (known_names known.now) (tokens_of tokens.now)) }
+{
+    match name_at(tokens) {
+        None => Ok(None),
+        Some((var, rest)) => match read_expr(alloc, known, MAX_DEPTH, rest)? {
+            None => Ok(None),
+            Some((value, rest)) => match name_at(rest) {
+                None => Ok(None),
+                Some((next, rest)) => {
+                    let var = variable(known, &var);
+                    let next = target(known, &next);
+                    Ok(Some((Act::Let { var, value, next }, rest)))
+                }
+            },
+        },
+    }
+}
+
 /// `VAR EXPR GRANULE THEN ELSE`.
 #[tactic(auto, unfolding(crate::specs::Line::read_at))]
 fn read_at<'a>(
@@ -39,7 +65,7 @@ fn read_at<'a>(
     tokens: &'a [u8],
 ) -> Result<Option<(Act, &'a [u8])>, AllocError>
     ensures { IfOk result (λ o. option_map (λ x. (step_of x.0, tokens_of x.1.now)) o
-        ≡ read_at (scope_of known.now) known.now.nodes.now (tokens_of tokens.now)) }
+        ≡ read_at (known_names known.now) (tokens_of tokens.now)) }
 {
     match name_at(tokens) {
         None => Ok(None),
@@ -76,7 +102,7 @@ fn branch_at<'a>(
     tokens: &'a [u8],
 ) -> Result<Option<(Act, &'a [u8])>, AllocError>
     ensures { IfOk result (λ o. option_map (λ x. (step_of x.0, tokens_of x.1.now)) o
-        ≡ branch_at (scope_of known.now) known.now.nodes.now (tokens_of tokens.now)) }
+        ≡ branch_at (known_names known.now) (tokens_of tokens.now)) }
 {
     match read_expr(alloc, known, MAX_DEPTH, tokens)? {
         None => Ok(None),
@@ -114,7 +140,7 @@ fn done_at<'a>(
     tokens: &'a [u8],
 ) -> Result<Option<(Act, &'a [u8])>, AllocError>
     ensures { IfOk result (λ o. option_map (λ x. (step_of x.0, tokens_of x.1.now)) o
-        ≡ done_at (scope_of known.now) (tokens_of tokens.now)) }
+        ≡ done_at (known_names known.now) (tokens_of tokens.now)) }
 {
     match read_expr(alloc, known, MAX_DEPTH, tokens)? {
         None => Ok(None),
@@ -133,11 +159,14 @@ pub fn act_at<'a>(
     tokens: &'a [u8],
 ) -> Result<Option<(Act, &'a [u8])>, AllocError>
     ensures { IfOk result (λ o. option_map (λ x. (step_of x.0, tokens_of x.1.now)) o
-        ≡ step_at (scope_of known.now) known.now.nodes.now (tokens_of tokens.now)) }
+        ≡ step_at (known_names known.now) (tokens_of tokens.now)) }
 {
     match next_token(tokens) {
         None => Ok(None),
         Some((token, rest)) => {
+            if token == b"let".as_slice() {
+                return let_at(alloc, known, rest);
+            }
             if token == b"read".as_slice() {
                 return read_at(alloc, known, rest);
             }

@@ -1,70 +1,77 @@
-ghost use Rattle.std.specs.Prelude.{◌≡◌, ◌≤◌, length, vec_len};
-
+use crate::declarations::Declarations;
 use crate::entry::Entry;
 use crate::known::Known;
-use crate::limits::{THIN_NAMES, THIN_NODES, THIN_RULES};
+use crate::lines::Lines;
 use dt_bits::Seq;
 use dt_lex::Name;
-use dt_model::{Expr, Model, Named, Node};
+use dt_model::{Expr, Model, Node};
+use indexmap::IndexMap;
 use std::alloc::{AllocError, Global};
 
-/// What the lines so far declare, and the rank of the last of them.
-#[derive(Debug, Drop)]
+/// What the lines so far declare and where, and the rank of the last of them.
+#[derive(Drop)]
 pub struct Draft {
     pub place: u8,
     pub word: u32,
     pub address: u32,
-    pub regs: Vec<Named>,
-    pub inputs: Vec<Named>,
-    pub vars: Vec<Named>,
+    pub regs: Declarations,
+    pub inputs: Declarations,
+    pub vars: Declarations,
     pub legal_context: Vec<Expr>,
+    pub context_lines: Vec<u32>,
     pub legal_access: Vec<Expr>,
+    pub access_lines: Vec<u32>,
     pub nodes: Vec<Node>,
-    ghost few_regs: { vec_len regs ≤ 8 },
-    ghost few_inputs: { vec_len inputs ≤ 8 },
-    ghost few_vars: { vec_len vars ≤ 8 },
+    pub node_lines: Vec<u32>,
 }
 
 impl Draft {
-    ghost use Rattle.std.specs.Prelude.{◌≡◌, ◌≤◌, [], true, length, OnOk};
+    ghost use Rattle.std.specs.Prelude.{◌≡◌, ◌+◌, ◌<◌, ◌^◌, List, [], OnOk};
+    ghost use Rattle.dt_lex.specs.declared.name.Name.{Name};
     ghost use Rattle.dt_model.specs.Data.{data_of};
-    ghost use Rattle.dt_model.specs.Faults.{node_scope};
-    ghost use Rattle.dt_modeltext.specs.Reading.{declared, may_follow, has_room, may_stand};
-    ghost use Rattle.dt_modeltext.specs.Code.{scope_of, line_of, declared_by, added};
+    ghost use Rattle.dt_modeltext.specs.Reading.{declared, may_follow, names_in};
+    ghost use Rattle.dt_modeltext.specs.Places.{Finds};
+    ghost use Rattle.dt_modeltext.specs.Code.{known_names, written, origins_of, declared_by, with_line, IsDraft};
 
     /// What no line declares.
     #[tactic(auto, unfolding(crate::specs::Reading::declared))]
     pub fn new(alloc: Global) -> Draft
-        ensures { declared_by result ≡ declared [] }
+        ensures value { declared_by result ≡ declared [] }
+        ensures valid { IsDraft 1 result }
     {
         Draft {
             place: 0,
             word: 0,
             address: 0,
-            regs: Vec::new(alloc),
-            inputs: Vec::new(alloc),
-            vars: Vec::new(alloc),
+            regs: Declarations::new(alloc),
+            inputs: Declarations::new(alloc),
+            vars: Declarations::new(alloc),
             legal_context: Vec::new(alloc),
+            context_lines: Vec::new(alloc),
             legal_access: Vec::new(alloc),
+            access_lines: Vec::new(alloc),
             nodes: Vec::new(alloc),
+            node_lines: Vec::new(alloc),
         }
     }
 
-    /// What the next line may name.
-    pub fn known<'a>(&'a self, nodes: &'a [Name]) -> Known<'a>
-        requires { length nodes.now ≤ 64 }
-        ensures scope { scope_of result ≡ node_scope (declared_by self.now).model }
+    /// What the next line may name, where `nodes` has the positions of all nodes.
+    pub fn known<'a>(&'a self, nodes: &'a IndexMap<Name, u32>) -> Known<'a>
+        ensures regs { result.regs.now ≡ self.now.regs.places }
+        ensures inputs { result.inputs.now ≡ self.now.inputs.places }
+        ensures vars { result.vars.now ≡ self.now.vars.places }
         ensures nodes { result.nodes.now ≡ nodes.now }
     {
         Known {
-            regs: self.regs.as_slice(),
-            inputs: self.inputs.as_slice(),
-            vars: self.vars.as_slice(),
+            regs: &self.regs.places,
+            inputs: &self.inputs.places,
+            vars: &self.vars.places,
             nodes,
         }
     }
 
-    fn may_follow(&self, rank: u8) -> bool
+    /// Whether a line of this rank may stand after those that were drafted.
+    pub fn may_follow(&self, rank: u8) -> bool
         ensures { result ≡ may_follow self.now.place rank }
     {
         if self.place < 3 {
@@ -74,34 +81,13 @@ impl Draft {
         }
     }
 
-    fn has_room(&self, entry: &Entry) -> bool
-        ensures { result ≡ has_room (declared_by self.now).model (line_of entry.now) }
-    {
-        match entry {
-            Entry::Header | Entry::Word(_) | Entry::Address(_) | Entry::End => true,
-            Entry::Reg(_) => self.regs.len() < THIN_NAMES,
-            Entry::Input(_) => self.inputs.len() < THIN_NAMES,
-            Entry::Var(_) => self.vars.len() < THIN_NAMES,
-            Entry::ContextRule(_) => self.legal_context.len() < THIN_RULES,
-            Entry::AccessRule(_) => self.legal_access.len() < THIN_RULES,
-            Entry::Node(_) => self.nodes.len() < THIN_NODES,
-        }
-    }
-
-    /// Whether the line may stand after those that were drafted.
-    #[tactic(auto, unfolding(crate::specs::Reading::may_stand))]
-    pub fn may_stand(&self, entry: &Entry) -> bool
-        ensures { result ≡ may_stand (declared_by self.now) (line_of entry.now) }
-    {
-        self.may_follow(entry.rank()) && self.has_room(entry)
-    }
-
-    /// Adds a line.
+    /// Adds the line of this number.
     #[tactic(auto, using(std::proofs::lemmas::List::map_push))]
-    pub fn add(&mut self, entry: Entry) -> Result<(), AllocError>
-        requires { has_room (declared_by self.old).model (line_of entry) ≡ true }
-        ensures { OnOk result (declared_by self.new
-            ≡ added (declared_by self.old) (line_of entry)) }
+    pub fn add(&mut self, entry: Entry, number: u32) -> Result<(), AllocError>
+        requires { IsDraft number self.old }
+        ensures value { OnOk result (declared_by self.new
+            ≡ with_line (declared_by self.old) number (written entry)) }
+        ensures valid { OnOk result (IsDraft (number + 1) self.new) }
     {
         match entry {
             Entry::Header => {
@@ -116,27 +102,30 @@ impl Draft {
                 self.place = 3;
             }
             Entry::Reg(named) => {
-                self.regs.push(named)?;
+                self.regs.add(named, number)?;
                 self.place = 4;
             }
             Entry::Input(named) => {
-                self.inputs.push(named)?;
+                self.inputs.add(named, number)?;
                 self.place = 5;
             }
             Entry::Var(named) => {
-                self.vars.push(named)?;
+                self.vars.add(named, number)?;
                 self.place = 6;
             }
             Entry::ContextRule(expr) => {
                 self.legal_context.push(expr)?;
+                self.context_lines.push(number)?;
                 self.place = 7;
             }
             Entry::AccessRule(expr) => {
                 self.legal_access.push(expr)?;
+                self.access_lines.push(number)?;
                 self.place = 8;
             }
             Entry::Node(node) => {
                 self.nodes.push(node)?;
+                self.node_lines.push(number)?;
                 self.place = 9;
             }
             Entry::End => {
@@ -146,19 +135,32 @@ impl Draft {
         Ok(())
     }
 
-    /// The model that the lines declare.
-    pub fn into_model(self) -> Model
-        ensures { data_of result ≡ (declared_by self).model }
+    /// The model that the lines declare, and where.
+    pub fn into_parts(self) -> (Model, Lines)
+        ensures model { data_of result.0 ≡ (declared_by self).model }
+        ensures lines { origins_of result.1 ≡ (declared_by self).origins }
     {
-        Model {
+        let (regs, reg_lines) = self.regs.into_lists();
+        let (inputs, input_lines) = self.inputs.into_lists();
+        let (vars, var_lines) = self.vars.into_lists();
+        let model = Model {
             word: self.word,
             address: self.address,
-            regs: Seq::from_vec(self.regs),
-            inputs: Seq::from_vec(self.inputs),
-            vars: Seq::from_vec(self.vars),
+            regs: Seq::from_vec(regs),
+            inputs: Seq::from_vec(inputs),
+            vars: Seq::from_vec(vars),
             legal_context: Seq::from_vec(self.legal_context),
             legal_access: Seq::from_vec(self.legal_access),
             nodes: Seq::from_vec(self.nodes),
-        }
+        };
+        let lines = Lines {
+            regs: reg_lines,
+            inputs: input_lines,
+            vars: var_lines,
+            legal_context: self.context_lines,
+            legal_access: self.access_lines,
+            nodes: self.node_lines,
+        };
+        (model, lines)
     }
 }

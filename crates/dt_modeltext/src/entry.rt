@@ -6,12 +6,12 @@ ghost use Rattle.dt_model.specs.Limits.{most_depth};
 ghost use Rattle.dt_modeltext.specs.Expr.{expr_at, small_at};
 ghost use Rattle.dt_modeltext.specs.Line.{alone, whole, ended, named_at, node_at, header_of, rule_of, spelled};
 ghost use Rattle.dt_modeltext.specs.Reading.{rank};
-ghost use Rattle.dt_modeltext.specs.Code.{scope_of, line_of};
+ghost use Rattle.dt_modeltext.specs.Code.{known_names, written};
 
 use crate::act::act_at;
+use crate::depth::MAX_DEPTH;
 use crate::expr::read_expr;
 use crate::known::Known;
-use crate::limits::MAX_DEPTH;
 use crate::token::{name_at, small_at};
 use dt_lex::next_token;
 use dt_model::{Expr, Named, Node};
@@ -35,7 +35,7 @@ pub enum Entry {
 impl Entry {
     /// Where this kind of line stands.
     pub fn rank(&self) -> u8
-        ensures { result ≡ rank (line_of self.now) }
+        ensures { result ≡ rank (written self.now) }
     {
         match self {
             Entry::Header => 1,
@@ -54,7 +54,7 @@ impl Entry {
 
 /// The very token `1`, alone.
 fn header(tokens: &[u8]) -> Option<Entry>
-    ensures { option_map line_of result ≡ header_of (tokens_of tokens.now) }
+    ensures { option_map written result ≡ header_of (tokens_of tokens.now) }
 {
     match next_token(tokens) {
         None => None,
@@ -69,7 +69,7 @@ fn header(tokens: &[u8]) -> Option<Entry>
 }
 
 fn end(tokens: &[u8]) -> Option<Entry>
-    ensures { option_map line_of result ≡ alone ended (tokens_of tokens.now) }
+    ensures { option_map written result ≡ alone ended (tokens_of tokens.now) }
 {
     if next_token(tokens).is_none() {
         Some(Entry::End)
@@ -117,7 +117,7 @@ fn lone_named(tokens: &[u8]) -> Option<Named>
 /// An expression, alone.
 fn lone_expr(alloc: Global, known: &Known, tokens: &[u8]) -> Result<Option<Expr>, AllocError>
     ensures { IfOk result (λ o. option_map tree_of o
-        ≡ whole (expr_at (scope_of known.now) most_depth (tokens_of tokens.now))) }
+        ≡ whole (expr_at (known_names known.now) most_depth (tokens_of tokens.now))) }
 {
     match read_expr(alloc, known, MAX_DEPTH, tokens)? {
         None => Ok(None),
@@ -135,7 +135,7 @@ fn lone_expr(alloc: Global, known: &Known, tokens: &[u8]) -> Result<Option<Expr>
 #[tactic(auto, unfolding(crate::specs::Line::node_at))]
 fn lone_node(alloc: Global, known: &Known, tokens: &[u8]) -> Result<Option<Node>, AllocError>
     ensures { IfOk result (λ o. option_map spot_of o
-        ≡ whole (node_at (scope_of known.now) known.now.nodes.now (tokens_of tokens.now))) }
+        ≡ whole (node_at (known_names known.now) (tokens_of tokens.now))) }
 {
     match name_at(tokens) {
         None => Ok(None),
@@ -155,8 +155,8 @@ fn lone_node(alloc: Global, known: &Known, tokens: &[u8]) -> Result<Option<Node>
 /// `context EXPR` or `access EXPR`.
 #[tactic(auto, unfolding(crate::specs::Line::rule_of))]
 fn rule(alloc: Global, known: &Known, tokens: &[u8]) -> Result<Option<Entry>, AllocError>
-    ensures { IfOk result (λ o. option_map line_of o
-        ≡ rule_of (scope_of known.now) (tokens_of tokens.now)) }
+    ensures { IfOk result (λ o. option_map written o
+        ≡ rule_of (known_names known.now) (tokens_of tokens.now)) }
 {
     match next_token(tokens) {
         None => Ok(None),
@@ -186,8 +186,8 @@ pub fn read_entry(
     word: &[u8],
     tokens: &[u8],
 ) -> Result<Option<Entry>, AllocError>
-    ensures { IfOk result (λ o. option_map line_of o
-        ≡ spelled (scope_of known.now) known.now.nodes.now word.now (tokens_of tokens.now)) }
+    ensures { IfOk result (λ o. option_map written o
+        ≡ spelled (known_names known.now) word.now (tokens_of tokens.now)) }
 {
     if word == b"model".as_slice() {
         return Ok(header(tokens));

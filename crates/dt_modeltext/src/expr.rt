@@ -1,9 +1,10 @@
-ghost use Rattle.std.specs.Prelude.{◌≡◌, ◌<◌, ◌≤◌, IfOk};
+ghost use Rattle.std.specs.Prelude.{◌≡◌, ◌<◌, ◌≤◌, ◌∷◌, IfOk};
 ghost use Rattle.std.specs.Option.{option_map};
+ghost use Rattle.dt_bits.specs.declared.op.Op.TheVariants.{SignExt, Shl, Shr};
 ghost use Rattle.dt_lex.specs.Text.{tokens_of};
 ghost use Rattle.dt_model.specs.Data.{tree_of};
-ghost use Rattle.dt_modeltext.specs.Expr.{slice_at, operator_at, one_at, two_at, three_at, operands_at, applied_at, expr_at};
-ghost use Rattle.dt_modeltext.specs.Code.{scope_of};
+ghost use Rattle.dt_modeltext.specs.Expr.{slice_at, counted_at, plain_of, operator_at, one_at, two_at, three_at, operands_at, applied_at, expr_at};
+ghost use Rattle.dt_modeltext.specs.Code.{known_names};
 
 use crate::known::Known;
 use crate::token::{after_close, atom, small_at};
@@ -26,6 +27,104 @@ fn slice_at(tokens: &[u8]) -> Option<(Op, &[u8])>
     }
 }
 
+/// An operator of one word.
+#[tactic(auto, unfolding(crate::specs::Expr::plain_of))]
+fn plain(token: &[u8]) -> Option<Op>
+    ensures { result ≡ plain_of token.now }
+{
+    if token == b"not".as_slice() {
+        return Some(Op::Not);
+    }
+    if token == b"and".as_slice() {
+        return Some(Op::And);
+    }
+    if token == b"or".as_slice() {
+        return Some(Op::Or);
+    }
+    if token == b"xor".as_slice() {
+        return Some(Op::Xor);
+    }
+    if token == b"add".as_slice() {
+        return Some(Op::Add);
+    }
+    if token == b"sub".as_slice() {
+        return Some(Op::Sub);
+    }
+    if token == b"concat".as_slice() {
+        return Some(Op::Concat);
+    }
+    if token == b"eq".as_slice() {
+        return Some(Op::Eq);
+    }
+    if token == b"ltu".as_slice() {
+        return Some(Op::Ltu);
+    }
+    if token == b"ite".as_slice() {
+        return Some(Op::Ite);
+    }
+    None
+}
+
+/// The width that a `sext` extends to.
+#[tactic(auto, unfolding(crate::specs::Expr::counted_at))]
+fn sext_at(tokens: &[u8]) -> Option<(Op, &[u8])>
+    ensures { option_map (λ x. (x.0, tokens_of x.1.now)) result
+        ≡ counted_at (λ to. SignExt to) (tokens_of tokens.now) }
+{
+    match small_at(tokens) {
+        None => None,
+        Some((to, rest)) => Some((Op::SignExt { to }, rest)),
+    }
+}
+
+/// The places that a `shl` moves by.
+#[tactic(auto, unfolding(crate::specs::Expr::counted_at))]
+fn shl_at(tokens: &[u8]) -> Option<(Op, &[u8])>
+    ensures { option_map (λ x. (x.0, tokens_of x.1.now)) result
+        ≡ counted_at (λ by. Shl by) (tokens_of tokens.now) }
+{
+    match small_at(tokens) {
+        None => None,
+        Some((by, rest)) => Some((Op::Shl { by }, rest)),
+    }
+}
+
+/// The places that a `shr` moves by.
+#[tactic(auto, unfolding(crate::specs::Expr::counted_at))]
+fn shr_at(tokens: &[u8]) -> Option<(Op, &[u8])>
+    ensures { option_map (λ x. (x.0, tokens_of x.1.now)) result
+        ≡ counted_at (λ by. Shr by) (tokens_of tokens.now) }
+{
+    match small_at(tokens) {
+        None => None,
+        Some((by, rest)) => Some((Op::Shr { by }, rest)),
+    }
+}
+
+/// The operator that a token and the text after it begin with, and what stands after its numbers.
+#[tactic(auto, unfolding(crate::specs::Expr::operator_at))]
+fn operator_of<'a>(token: &[u8], rest: &'a [u8]) -> Option<(Op, &'a [u8])>
+    ensures { option_map (λ x. (x.0, tokens_of x.1.now)) result
+        ≡ operator_at (token.now ∷ tokens_of rest.now) }
+{
+    if token == b"slice".as_slice() {
+        return slice_at(rest);
+    }
+    if token == b"sext".as_slice() {
+        return sext_at(rest);
+    }
+    if token == b"shl".as_slice() {
+        return shl_at(rest);
+    }
+    if token == b"shr".as_slice() {
+        return shr_at(rest);
+    }
+    match plain(token) {
+        None => None,
+        Some(op) => Some((op, rest)),
+    }
+}
+
 /// The operator at the front, with its numbers, and what stands after them.
 #[tactic(auto, unfolding(crate::specs::Expr::operator_at))]
 fn operator_at(tokens: &[u8]) -> Option<(Op, &[u8])>
@@ -34,21 +133,7 @@ fn operator_at(tokens: &[u8]) -> Option<(Op, &[u8])>
 {
     match next_token(tokens) {
         None => None,
-        Some((token, rest)) => {
-            if token == b"add".as_slice() {
-                return Some((Op::Add, rest));
-            }
-            if token == b"slice".as_slice() {
-                return slice_at(rest);
-            }
-            if token == b"concat".as_slice() {
-                return Some((Op::Concat, rest));
-            }
-            if token == b"eq".as_slice() {
-                return Some((Op::Eq, rest));
-            }
-            None
-        }
+        Some((token, rest)) => operator_of(token, rest),
     }
 }
 
@@ -64,7 +149,7 @@ pub fn read_expr<'a>(
 ) -> Result<Option<(Expr, &'a [u8])>, AllocError>
     requires { depth ≤ 32 }
     ensures { IfOk result (λ o. option_map (λ x. (tree_of x.0, tokens_of x.1.now)) o
-        ≡ expr_at (scope_of known.now) depth (tokens_of tokens.now)) }
+        ≡ expr_at (known_names known.now) depth (tokens_of tokens.now)) }
 {
     match next_token(tokens) {
         None => Ok(None),
@@ -91,7 +176,7 @@ fn read_applied<'a>(
 ) -> Result<Option<(Expr, &'a [u8])>, AllocError>
     requires { depth < 32 }
     ensures { IfOk result (λ o. option_map (λ x. (tree_of x.0, tokens_of x.1.now)) o
-        ≡ applied_at (expr_at (scope_of known.now) depth) (tokens_of tokens.now)) }
+        ≡ applied_at (expr_at (known_names known.now) depth) (tokens_of tokens.now)) }
 {
     match operator_at(tokens) {
         None => Ok(None),
@@ -111,7 +196,7 @@ fn read_operands<'a>(
 ) -> Result<Option<(Expr, &'a [u8])>, AllocError>
     requires { depth < 32 }
     ensures { IfOk result (λ o. option_map (λ x. (tree_of x.0, tokens_of x.1.now)) o
-        ≡ operands_at (expr_at (scope_of known.now) depth) op (tokens_of tokens.now)) }
+        ≡ operands_at (expr_at (known_names known.now) depth) op (tokens_of tokens.now)) }
 {
     match arity(op) {
         1 => read_one(alloc, known, depth, op, tokens),
@@ -132,7 +217,7 @@ fn read_one<'a>(
 ) -> Result<Option<(Expr, &'a [u8])>, AllocError>
     requires { depth < 32 }
     ensures { IfOk result (λ o. option_map (λ x. (tree_of x.0, tokens_of x.1.now)) o
-        ≡ one_at (expr_at (scope_of known.now) depth) op (tokens_of tokens.now)) }
+        ≡ one_at (expr_at (known_names known.now) depth) op (tokens_of tokens.now)) }
 {
     match read_expr(alloc, known, depth, tokens)? {
         None => Ok(None),
@@ -157,7 +242,7 @@ fn read_two<'a>(
 ) -> Result<Option<(Expr, &'a [u8])>, AllocError>
     requires { depth < 32 }
     ensures { IfOk result (λ o. option_map (λ x. (tree_of x.0, tokens_of x.1.now)) o
-        ≡ two_at (expr_at (scope_of known.now) depth) op (tokens_of tokens.now)) }
+        ≡ two_at (expr_at (known_names known.now) depth) op (tokens_of tokens.now)) }
 {
     match read_expr(alloc, known, depth, tokens)? {
         None => Ok(None),
@@ -186,7 +271,7 @@ fn read_three<'a>(
 ) -> Result<Option<(Expr, &'a [u8])>, AllocError>
     requires { depth < 32 }
     ensures { IfOk result (λ o. option_map (λ x. (tree_of x.0, tokens_of x.1.now)) o
-        ≡ three_at (expr_at (scope_of known.now) depth) op (tokens_of tokens.now)) }
+        ≡ three_at (expr_at (known_names known.now) depth) op (tokens_of tokens.now)) }
 {
     match read_expr(alloc, known, depth, tokens)? {
         None => Ok(None),

@@ -2,22 +2,21 @@ ghost use Rattle.std.specs.Prelude.{◌≡◌};
 ghost use Rattle.dt_modeltext.specs.declared.fault.ModelFault.TheVariants as faults;
 
 use dt_lex::LexFault;
-use dt_model::{ModelRefusal, Place};
+use dt_model::ModelRefusal;
 use std::alloc::{AllocError, AllocFailed};
 
-/// Why a text is no thin text of an accepted model.
+/// Why a text gave no accepted model. The numbers of lines are counted from 1.
 #[derive(Clone, Copy, Debug, PartialEq, Eq)]
 pub enum ModelFault {
     /// Memory ran out.
     Memory,
-    /// A byte is neither a line feed nor printable ASCII, or is a `#`.
-    NotThin,
-    /// The first bad line is too long. The number of the line is counted from 1.
+    /// The first bad line is too long, or has a bad byte before its comment.
     Lex(LexFault),
     /// The first bad line doesn't have the shape that its place asks for, or no line `end` comes.
     Form(u32),
-    /// The text spells a model that the check refuses, for this reason at this place.
-    Refused { refusal: ModelRefusal, place: Place },
+    /// No line is bad, and the check refuses the model at the place of this line; or this is the
+    /// first bad line, and more than 32 opening parentheses stand unclosed in it (`TooDeep`).
+    Refused { refusal: ModelRefusal, line: u32 },
 }
 
 impl From<AllocError> for ModelFault {

@@ -1,17 +1,12 @@
-ghost use Rattle.std.specs.Prelude.{◌≤◌, length};
-
 use dt_lex::Name;
-use dt_model::Named;
+use indexmap::IndexMap;
 
-/// What a line may name: what the lines before it declare, and the nodes of the whole text.
-#[derive(Clone, Copy, Debug)]
+/// What a line may name: what the lines before it declare, and the nodes of the whole text. Each
+/// map gives the position of the first of its names that is the same.
+#[derive(Clone, Copy)]
 pub struct Known<'a> {
-    pub regs: &'a [Named],
-    pub inputs: &'a [Named],
-    pub vars: &'a [Named],
-    pub nodes: &'a [Name],
-    ghost few_regs: { length regs.now ≤ 8 },
-    ghost few_inputs: { length inputs.now ≤ 8 },
-    ghost few_vars: { length vars.now ≤ 8 },
-    ghost few_nodes: { length nodes.now ≤ 64 },
+    pub regs: &'a IndexMap<Name, u32>,
+    pub inputs: &'a IndexMap<Name, u32>,
+    pub vars: &'a IndexMap<Name, u32>,
+    pub nodes: &'a IndexMap<Name, u32>,
 }

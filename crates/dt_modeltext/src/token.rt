@@ -1,16 +1,16 @@
-ghost use Rattle.std.specs.Prelude.{◌≡◌, ◌==◌, ◌<◌, ◌^◌, Some, None, length, not, position};
+ghost use Rattle.std.specs.Prelude.{◌≡◌, Some, None, not, position};
 ghost use Rattle.std.specs.List.{before_first, after_first};
 ghost use Rattle.std.specs.Option.{option_map};
 ghost use Rattle.dt_lex.specs.Text.{tokens_of};
-ghost use Rattle.dt_lex.specs.Names.{same_name};
 ghost use Rattle.dt_model.specs.Data.{tree_of};
-ghost use Rattle.dt_modeltext.specs.Expr.{small_of, decimal_of, is_colon, constant_of, position_of, named, atom_of, small_at, name_at, closing};
+ghost use Rattle.dt_modeltext.specs.Expr.{small_of, decimal_of, is_colon, constant_of, named, atom_of, small_at, name_at, closing};
 ghost use Rattle.dt_modeltext.specs.Line.{target, variable};
-ghost use Rattle.dt_modeltext.specs.Code.{scope_of};
+ghost use Rattle.dt_modeltext.specs.Code.{known_names};
 
 use crate::known::Known;
+use crate::places::place_of;
 use dt_lex::{Name, next_token, number};
-use dt_model::{Expr, Named};
+use dt_model::Expr;
 
 /// The position of what isn't declared.
 const UNKNOWN: u32 = u32::MAX;
@@ -68,47 +68,23 @@ fn constant(token: &[u8]) -> Option<Expr>
     }
 }
 
-fn place_of(names: &[Named], name: &Name) -> Option<usize>
-    ensures { result ≡ position_of names.now name.now }
-{
-    names.iter().position(|n| n.name == *name)
-}
-
-/// The position of the first of the names that is this one.
-#[tactic(auto, using(crate::proofs::Positions::position_below))]
-fn position_of(names: &[Named], name: &Name) -> Option<u32>
-    requires { length names.now < 2 ^ 32 }
-    ensures { result ≡ position_of names.now name.now }
-{
-    match place_of(names, name) {
-        None => None,
-        Some(i) => Some(i as u32),
-    }
-}
-
-fn node_place(nodes: &[Name], name: &Name) -> Option<usize>
-    ensures { result ≡ position (λ m. same_name m name.now) nodes.now }
-{
-    nodes.iter().position(|n| n == name)
-}
-
 /// The position of the first node of this name.
-#[tactic(auto, unfolding(crate::specs::Line::target), using(crate::proofs::Positions::position_below))]
+#[tactic(auto, unfolding(crate::specs::Line::target))]
 pub fn target(known: &Known, name: &Name) -> u32
-    ensures { result ≡ target known.now.nodes.now name.now }
+    ensures { result ≡ target (known_names known.now) name.now }
 {
-    match node_place(known.nodes, name) {
+    match place_of(known.nodes, name) {
         None => UNKNOWN,
-        Some(i) => i as u32,
+        Some(i) => i,
     }
 }
 
 /// The position of a variable.
 #[tactic(auto, unfolding(crate::specs::Line::variable))]
 pub fn variable(known: &Known, name: &Name) -> u32
-    ensures { result ≡ variable (scope_of known.now) name.now }
+    ensures { result ≡ variable (known_names known.now) name.now }
 {
-    match position_of(known.vars, name) {
+    match place_of(known.vars, name) {
         None => UNKNOWN,
         Some(i) => i,
     }
@@ -117,13 +93,13 @@ pub fn variable(known: &Known, name: &Name) -> u32
 /// What a name in an expression stands for.
 #[tactic(auto, unfolding(crate::specs::Expr::named))]
 fn named(known: &Known, name: &Name) -> Expr
-    ensures { tree_of result ≡ named (scope_of known.now) name.now }
+    ensures { tree_of result ≡ named (known_names known.now) name.now }
 {
-    match position_of(known.regs, name) {
+    match place_of(known.regs, name) {
         Some(i) => Expr::Reg(i),
-        None => match position_of(known.inputs, name) {
+        None => match place_of(known.inputs, name) {
             Some(i) => Expr::Input(i),
-            None => match position_of(known.vars, name) {
+            None => match place_of(known.vars, name) {
                 Some(i) => Expr::Var(i),
                 None => Expr::Reg(UNKNOWN),
             },
@@ -134,7 +110,7 @@ fn named(known: &Known, name: &Name) -> Expr
 /// The name or the constant that a token spells.
 #[tactic(auto, unfolding(crate::specs::Expr::atom_of))]
 pub fn atom(known: &Known, token: &[u8]) -> Option<Expr>
-    ensures { option_map tree_of result ≡ atom_of (scope_of known.now) token.now }
+    ensures { option_map tree_of result ≡ atom_of (known_names known.now) token.now }
 {
     match Name::read(token) {
         Some(name) => Some(named(known, &name)),
