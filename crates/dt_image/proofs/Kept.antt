@@ -10,7 +10,7 @@ use Rattle.dt_model.specs.Data.{Data}
 use Rattle.dt_model.specs.Values.{FitNames}
 use Rattle.dt_model.specs.declared.model.Named.{Named}
 use Rattle.dt_model.specs.Faults.{IsAccepted}
-use Rattle.dt_model.proofs.Accepting.{accepted_word, accepted_address}
+use Rattle.dt_model.proofs.Accepting.{accepted_word, accepted_bytes, accepted_address}
 use Rattle.dt_image.specs.declared.fault.Cause.TheVariants as causes
 use Rattle.dt_image.specs.declared.image.ImageAccess.{ImageAccess}
 use Rattle.dt_image.specs.declared.draft.Draft.{Draft}
@@ -124,15 +124,6 @@ length_added d End = omega arith
 
 -- ---- the image in the end
 
-size_is : (w : ℕ) → (w ≡ 8) ⊎ ((w ≡ 16) ⊎ ((w ≡ 32) ⊎ (w ≡ 64))) → IsWordSize (w / 8) × (w ≡ 8 * (w / 8))
-size_is w h =
-    ⊎_elim (λ e. sized w 8 e (grind arith))
-    (λ r. ⊎_elim (λ e. sized w 16 e (grind arith))
-    (λ s. ⊎_elim (λ e. sized w 32 e (grind arith)) (λ e. sized w 64 e (grind arith)) s) r) h
-  where
-    sized : (x k : ℕ) → x ≡ k → IsWordSize (k / 8) × (k ≡ 8 * (k / 8)) → IsWordSize (x / 8) × (x ≡ 8 * (x / 8))
-    sized x k e g = subst (λ (y : ℕ). IsWordSize (y / 8) × (y ≡ 8 * (y / 8))) (sym e) g
-
 pub word_bytes : (m : Data) → IsAccepted m → 8 ≤ m.word
 word_bytes m a = ⊎_elim (λ e. omega arith) (λ r. ⊎_elim (λ e. omega arith) (λ s. ⊎_elim (λ e. omega arith) (λ e. omega arith) s) r) (accepted_word m a)
 
@@ -155,7 +146,7 @@ pub record IsGood (m : Data) (d : Draft) : Type 0 where
 
 pub draft_good : (m : Data) (d : Draft) → IsAccepted m → IsDraft m d → 2 ≤ d.place → IsGood m d
 draft_good m d a h late =
-    let size = size_is m.word (accepted_word m a) in
+    let size = accepted_bytes m a in
     let most : 2 ^ m.address ≤ 2 ^ 64 = pow_mono (accepted_address m a).1 in
     let p = and_parts (eqb (d.bounds.0 % (m.word / 8)) 0 && eqb (d.bounds.1 % (m.word / 8)) 0 && leb d.bounds.0 d.bounds.1) (leb d.bounds.1 (2 ^ m.address)) (h.bounds late) in
     let q = and_parts (eqb (d.bounds.0 % (m.word / 8)) 0 && eqb (d.bounds.1 % (m.word / 8)) 0) (leb d.bounds.0 d.bounds.1) p.0 in

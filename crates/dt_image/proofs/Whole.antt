@@ -4,26 +4,17 @@ use Rattle.std.specs.Prelude.{map}
 use Rattle.std.specs.List.{flat_map}
 use Rattle.std.proofs.lemmas.List.{append-nil, map_push}
 use Rattle.std.proofs.lemmas.List.Concat.{flat_map-append}
-use Rattle.dt_lex.proofs.Folds.{AddsUp}
+use Rattle.dt_lex.specs.Reading.{last_of}
+use Rattle.dt_lex.proofs.Folds.{AddsUp, last_push, one_more, no_more}
 use Rattle.dt_model.specs.Data.{Data}
 use Rattle.dt_image.specs.declared.draft.Draft.{Draft}
 use Rattle.dt_image.specs.declared.line.Line.{Line}
 use Rattle.dt_image.specs.declared.line.Line.TheVariants.{Header, Tables, Context, Access, Word, End}
-use Rattle.dt_image.specs.Reading.{rank, last_of, bounds_in, contexts_in, accesses_in, words_in, declared, grammar}
+use Rattle.dt_image.specs.Reading.{rank, bounds_in, contexts_in, accesses_in, words_in, declared, grammar}
 use Rattle.dt_image.specs.Added.{added}
-
-last_push : {X : Type 0} (d : X) (xs : List X) (x : X) → last_of d (xs ++ x ∷ []) ≡ x
-last_push d [] x = refl
-last_push d (y ∷ ys) x = last_push y ys x
 
 rank_push : (ls : List Line) (l : Line) → last_of 0 (map rank (ls ++ l ∷ [])) ≡ rank l
 rank_push ls l = ap (last_of 0) (map_push rank ls l) ∙ last_push 0 (map rank ls) (rank l)
-
-one_more : {A : Type 0} (f : Line → List A) (ls : List Line) (l : Line) (x : A) → f l ≡ x ∷ [] → flat_map f (ls ++ l ∷ []) ≡ flat_map f ls ++ x ∷ []
-one_more {A = A} f ls l x e = flat_map-append f ls (l ∷ []) ∙ ap (λ (xs : List A). flat_map f ls ++ xs) (append-nil (f l) ∙ e)
-
-no_more : {A : Type 0} (f : Line → List A) (ls : List Line) (l : Line) → f l ≡ [] → flat_map f (ls ++ l ∷ []) ≡ flat_map f ls
-no_more {A = A} f ls l e = flat_map-append f ls (l ∷ []) ∙ ap (λ (xs : List A). flat_map f ls ++ xs) (append-nil (f l) ∙ e) ∙ append-nil (flat_map f ls)
 
 same : (a b : Draft) → a.place ≡ b.place → a.bounds ≡ b.bounds → a.contexts ≡ b.contexts → a.accesses ≡ b.accesses → a.words ≡ b.words → a ≡ b
 same a b p q r s t = λ i. record { place = p i; bounds = q i; contexts = r i; accesses = s i; words = t i }

@@ -2,7 +2,7 @@
 use Rattle.std.specs.Prelude.{ℕ, ◌+◌, ◌/◌, ◌%◌, ◌^◌, ◌==◌, nat_lt, nat_le, Bool, true, false, ◌&&◌, List, [], ◌∷◌, length, map, Option, Some, None, Result, Ok, Err, if◌then◌else◌}
 use Rattle.std.specs.List.{flat_map}
 use Rattle.dt_bits.specs.declared.memory.Word.{Word as Stored}
-use Rattle.dt_lex.specs.Reading.{Grammar, reading_of}
+use Rattle.dt_lex.specs.Reading.{last_of, Grammar, reading_of}
 use Rattle.dt_model.specs.Data.{Data}
 use Rattle.dt_model.specs.declared.model.Named.{Named}
 use Rattle.dt_image.specs.declared.fault.ImageFault.{ImageFault}
@@ -42,11 +42,6 @@ accesses_in _ = []
 abbrev pub words_in : Line → List Stored
 words_in (Word w) = w ∷ []
 words_in _ = []
-
--- the last of a list, or d
-abbrev pub last_of : {X : Type 0} → X → List X → X
-last_of d [] = d
-last_of d (x ∷ xs) = last_of x xs
 
 -- the rank of the last line, the bounds, and the contexts, accesses and words in their order
 unfoldable pub declared : List Line → Draft

@@ -50,31 +50,44 @@ fn an_image_is_printed_in_its_one_text(rt: HostRuntime) -> Result<(), Fail> {
     Ok(())
 }
 
-/// The fault of a short text.
-fn fault_of(rt: &HostRuntime, model: &Accepted, text: &[u8]) -> Option<ImageFault> {
+/// The fault of a text whose first two lines are lawful, and then these lines.
+fn fault_after(
+    rt: &HostRuntime,
+    model: &Accepted,
+    lines: &[u8],
+) -> Result<Option<ImageFault>, Fail> {
+    let mut text = Vec::from_slice(rt.alloc(), b"image 1\ntables 0 8\n")?;
+    text.extend_from_slice(lines)?;
     if text.len() > 1000 {
-        return None;
+        return Err(Fail::from("long"));
     }
-    read_image(rt.alloc(), model, text).err()
+    Ok(read_image(rt.alloc(), model, text.as_slice()).err())
+}
+
+#[test]
+fn the_first_lines_are_fixed(rt: HostRuntime) -> Result<(), Fail> {
+    let model = small_model(&rt)?;
+    let alloc = rt.alloc();
+    let none = read_image(alloc, &model, b"").err();
+    assert_eq!(rt; none, Some(ImageFault::Form(1)));
+    let header = read_image(alloc, &model, b"image 0x1\n").err();
+    assert_eq!(rt; header, Some(ImageFault::Form(1)));
+    let bounds = read_image(alloc, &model, b"image 1\ntables 1 8\n").err();
+    assert_eq!(rt; bounds, Some(ImageFault::OutOfRange(2)));
+    Ok(())
 }
 
 #[test]
 fn lines_stand_in_their_order(rt: HostRuntime) -> Result<(), Fail> {
     let model = small_model(&rt)?;
-    let texts = [
-        (b"".as_slice(), ImageFault::Form(1)),
-        (b"image 0x1\n", ImageFault::Form(1)),
-        (b"image 1 \x01\n", ImageFault::Lex(LexFault::BadByte(1))),
-        (b"image 1\ntables 0 8\n", ImageFault::Form(3)),
-        (b"image 1\ntables 0 8\nend\nend\n", ImageFault::Form(4)),
-        (b"image 1\ntables 0 8\naccess\n", ImageFault::Form(3)),
-        (
-            b"image 1\ntables 0 8\nword 0 1\ncontext 0 0\n",
-            ImageFault::Form(4),
-        ),
-    ];
-    for (text, fault) in texts {
-        assert_eq!(rt; fault_of(&rt, &model, text), Some(fault));
+    for (lines, fault) in [
+        (b"".as_slice(), ImageFault::Form(3)),
+        (b"\x01", ImageFault::Lex(LexFault::BadByte(3))),
+        (b"end\nend", ImageFault::Form(4)),
+        (b"access", ImageFault::Form(3)),
+        (b"word 0 1\ncontext 0 0", ImageFault::Form(4)),
+    ] {
+        assert_eq!(rt; fault_after(&rt, &model, lines)?, Some(fault));
     }
     Ok(())
 }
@@ -82,32 +95,14 @@ fn lines_stand_in_their_order(rt: HostRuntime) -> Result<(), Fail> {
 #[test]
 fn numbers_are_the_models(rt: HostRuntime) -> Result<(), Fail> {
     let model = small_model(&rt)?;
-    let texts = [
-        (
-            b"image 1\ntables 1 8\n".as_slice(),
-            ImageFault::OutOfRange(2),
-        ),
-        (
-            b"image 1\ntables 0 0x100000000000008\n",
-            ImageFault::OutOfRange(2),
-        ),
-        (b"image 1\ntables 0 8\ncontext 0\n", ImageFault::Shape(3)),
-        (
-            b"image 1\ntables 0 8\ncontext 256 0\n",
-            ImageFault::OutOfRange(3),
-        ),
-        (b"image 1\ntables 0 8\naccess 0 1\n", ImageFault::Shape(3)),
-        (
-            b"image 1\ntables 0 8\nword 8 1\n",
-            ImageFault::OutOfRange(3),
-        ),
-        (
-            b"image 1\ntables 0 8\nword 0 1\nword 0 1\n",
-            ImageFault::Order(4),
-        ),
-    ];
-    for (text, fault) in texts {
-        assert_eq!(rt; fault_of(&rt, &model, text), Some(fault));
+    for (lines, fault) in [
+        (b"context 0".as_slice(), ImageFault::Shape(3)),
+        (b"context 256 0", ImageFault::OutOfRange(3)),
+        (b"access 0 1", ImageFault::Shape(3)),
+        (b"word 8 1", ImageFault::OutOfRange(3)),
+        (b"word 0 1\nword 0 1", ImageFault::Order(4)),
+    ] {
+        assert_eq!(rt; fault_after(&rt, &model, lines)?, Some(fault));
     }
     Ok(())
 }

@@ -2,9 +2,10 @@
 use Rattle.std.proofs.Common.{◌≡◌, ℕ, List, [], ◌∷◌, ◌++◌, refl, ap, ◌∙◌}
 use Rattle.std.specs.Prelude.{map}
 use Rattle.std.specs.List.{flat_map}
-use Rattle.std.proofs.lemmas.List.{append-nil, map_push}
-use Rattle.std.proofs.lemmas.List.Concat.{flat_map-append}
+use Rattle.std.proofs.lemmas.List.{map_push}
 use Rattle.dt_lex.specs.declared.name.Name.{Name}
+use Rattle.dt_lex.specs.Reading.{last_of}
+use Rattle.dt_lex.proofs.Folds.{last_push, one_more, no_more}
 use Rattle.dt_request.specs.declared.list.Demand.{Demand}
 use Rattle.dt_request.specs.declared.list.AccessWish.{AccessWish}
 use Rattle.dt_request.specs.declared.list.Requests.{Requests}
@@ -12,21 +13,11 @@ use Rattle.dt_request.specs.declared.draft.Part.{Part}
 use Rattle.dt_request.specs.declared.draft.Part.TheVariants.{Start}
 use Rattle.dt_request.specs.declared.draft.Entry.{Entry}
 use Rattle.dt_request.specs.declared.draft.Entry.TheVariants.{Header, Tables, Context, Access, Demand as Wanted, End}
-use Rattle.dt_request.specs.Reading.{Declared, part_of, last_of, bounds_in, contexts_in, demands_in, accesses_in, declared}
+use Rattle.dt_request.specs.Reading.{Declared, part_of, bounds_in, contexts_in, demands_in, accesses_in, declared}
 use Rattle.dt_request.specs.Drafts.{with_demand, added}
-
-last_push : {X : Type 0} (d : X) (xs : List X) (x : X) → last_of d (xs ++ x ∷ []) ≡ x
-last_push d [] x = refl
-last_push d (y ∷ ys) x = last_push y ys x
 
 part_push : (es : List Entry) (e : Entry) → last_of Start (map part_of (es ++ e ∷ [])) ≡ part_of e
 part_push es e = ap (last_of Start) (map_push part_of es e) ∙ last_push Start (map part_of es) (part_of e)
-
-one_more : {A : Type 0} (f : Entry → List A) (es : List Entry) (e : Entry) (x : A) → f e ≡ x ∷ [] → flat_map f (es ++ e ∷ []) ≡ flat_map f es ++ x ∷ []
-one_more {A = A} f es e x is = flat_map-append f es (e ∷ []) ∙ ap (λ (xs : List A). flat_map f es ++ xs) (append-nil (f e) ∙ is)
-
-no_more : {A : Type 0} (f : Entry → List A) (es : List Entry) (e : Entry) → f e ≡ [] → flat_map f (es ++ e ∷ []) ≡ flat_map f es
-no_more {A = A} f es e none = flat_map-append f es (e ∷ []) ∙ ap (λ (xs : List A). flat_map f es ++ xs) (append-nil (f e) ∙ none) ∙ append-nil (flat_map f es)
 
 abbrev bounds_of : List Entry → ℕ × ℕ
 bounds_of es = last_of (0, 0) (flat_map bounds_in es)
@@ -112,18 +103,18 @@ accesses_demand (End ∷ es) x = accesses_demand es x
 
 -- ---- all of it
 
-same : (p q : Part) (a b : Requests) → p ≡ q → a.lo ≡ b.lo → a.hi ≡ b.hi → a.contexts ≡ b.contexts → a.accesses ≡ b.accesses → (let f : Part → Requests → Declared = λ part list. record { part = part; list = list } in f p a ≡ f q b)
-same p q a b part lo hi contexts accesses = λ i. record { part = part i; list = record { lo = lo i; hi = hi i; contexts = contexts i; accesses = accesses i } }
+same : (p q : Part) (a b : Requests) → p ≡ q → a.lo ≡ b.lo → a.hi ≡ b.hi → a.contexts ≡ b.contexts → a.accesses ≡ b.accesses → a.links ≡ b.links → (let f : Part → Requests → Declared = λ part list. record { part = part; list = list } in f p a ≡ f q b)
+same p q a b part lo hi contexts accesses links = λ i. record { part = part i; list = record { lo = lo i; hi = hi i; contexts = contexts i; accesses = accesses i; links = links i } }
 
 quiet : (es : List Entry) (e : Entry) → bounds_in e ≡ [] → contexts_in e ≡ [] → IsQuiet e → (let f : Part → Requests → Declared = λ part list. record { part = part; list = list } in declared (es ++ e ∷ []) ≡ f (part_of e) (declared es).list)
 unfolding declared
-quiet es e bounds contexts none = same _ _ _ _ (part_push es e) (ap (λ (p : ℕ × ℕ). p.0) (bounds_stay es e bounds)) (ap (λ (p : ℕ × ℕ). p.1) (bounds_stay es e bounds)) (no_more contexts_in es e contexts) (accesses_stay es e none)
+quiet es e bounds contexts none = same _ _ _ _ (part_push es e) (ap (λ (p : ℕ × ℕ). p.0) (bounds_stay es e bounds)) (ap (λ (p : ℕ × ℕ). p.1) (bounds_stay es e bounds)) (no_more contexts_in es e contexts) (accesses_stay es e none) refl
 
 pub declared_push : (es : List Entry) (e : Entry) → declared (es ++ e ∷ []) ≡ added (declared es) e
 unfolding declared
 declared_push es Header = quiet es Header refl refl (refl, refl)
-declared_push es (Tables lo hi) = same _ _ _ _ (part_push es (Tables lo hi)) (ap (λ (p : ℕ × ℕ). p.0) (bounds_push es lo hi)) (ap (λ (p : ℕ × ℕ). p.1) (bounds_push es lo hi)) (no_more contexts_in es (Tables lo hi) refl) (accesses_stay es (Tables lo hi) (refl, refl))
-declared_push es (Context name) = same _ _ _ _ (part_push es (Context name)) (ap (λ (p : ℕ × ℕ). p.0) (bounds_stay es (Context name) refl)) (ap (λ (p : ℕ × ℕ). p.1) (bounds_stay es (Context name) refl)) (one_more contexts_in es (Context name) name refl) (accesses_stay es (Context name) (refl, refl))
-declared_push es (Access name context) = same _ _ _ _ (part_push es (Access name context)) (ap (λ (p : ℕ × ℕ). p.0) (bounds_stay es (Access name context) refl)) (ap (λ (p : ℕ × ℕ). p.1) (bounds_stay es (Access name context) refl)) (no_more contexts_in es (Access name context) refl) (accesses_push es name context)
-declared_push es (Wanted demand) = same _ _ _ _ (part_push es (Wanted demand)) (ap (λ (p : ℕ × ℕ). p.0) (bounds_stay es (Wanted demand) refl)) (ap (λ (p : ℕ × ℕ). p.1) (bounds_stay es (Wanted demand) refl)) (no_more contexts_in es (Wanted demand) refl) (accesses_demand es demand)
+declared_push es (Tables lo hi) = same _ _ _ _ (part_push es (Tables lo hi)) (ap (λ (p : ℕ × ℕ). p.0) (bounds_push es lo hi)) (ap (λ (p : ℕ × ℕ). p.1) (bounds_push es lo hi)) (no_more contexts_in es (Tables lo hi) refl) (accesses_stay es (Tables lo hi) (refl, refl)) refl
+declared_push es (Context name) = same _ _ _ _ (part_push es (Context name)) (ap (λ (p : ℕ × ℕ). p.0) (bounds_stay es (Context name) refl)) (ap (λ (p : ℕ × ℕ). p.1) (bounds_stay es (Context name) refl)) (one_more contexts_in es (Context name) name refl) (accesses_stay es (Context name) (refl, refl)) refl
+declared_push es (Access name context) = same _ _ _ _ (part_push es (Access name context)) (ap (λ (p : ℕ × ℕ). p.0) (bounds_stay es (Access name context) refl)) (ap (λ (p : ℕ × ℕ). p.1) (bounds_stay es (Access name context) refl)) (no_more contexts_in es (Access name context) refl) (accesses_push es name context) refl
+declared_push es (Wanted demand) = same _ _ _ _ (part_push es (Wanted demand)) (ap (λ (p : ℕ × ℕ). p.0) (bounds_stay es (Wanted demand) refl)) (ap (λ (p : ℕ × ℕ). p.1) (bounds_stay es (Wanted demand) refl)) (no_more contexts_in es (Wanted demand) refl) (accesses_demand es demand) refl
 declared_push es End = quiet es End refl refl (refl, refl)

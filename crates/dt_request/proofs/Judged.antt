@@ -7,7 +7,8 @@ use Rattle.dt_model.specs.Faults.{IsAccepted}
 use Rattle.dt_model.proofs.Accepting.{accepted_word, accepted_address}
 use Rattle.dt_request.specs.declared.list.Demand.{Demand}
 use Rattle.dt_request.specs.declared.list.AccessWish.{AccessWish}
-use Rattle.dt_request.specs.Reading.{last_of, last_demands}
+use Rattle.dt_lex.specs.Reading.{last_of}
+use Rattle.dt_request.specs.Reading.{last_demands}
 
 -- a word has a byte
 pub word_bytes_some : (d : Data) → IsAccepted d → 0 < d.word / 8

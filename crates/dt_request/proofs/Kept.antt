@@ -12,7 +12,7 @@ use Rattle.dt_lex.specs.declared.fault.LexFault.{LexFault}
 use Rattle.dt_lex.specs.Names.{name_of, same_name, IsName}
 use Rattle.dt_lex.specs.Numeral.{number_of}
 use Rattle.dt_lex.specs.Text.{fault_of, tokens_of}
-use Rattle.dt_lex.specs.Reading.{◌>>=◌, unless_faulty, row_entry, line_entry, line_added, grow}
+use Rattle.dt_lex.specs.Reading.{last_of, ◌>>=◌, unless_faulty, row_entry, line_entry, line_added, grow}
 use Rattle.dt_lex.proofs.Padded.{name_of_again}
 use Rattle.dt_model.specs.Data.{Data}
 use Rattle.dt_request.specs.declared.fault.RequestFault.{RequestFault}
@@ -29,9 +29,12 @@ use Rattle.dt_request.specs.declared.line.Line.{Line}
 use Rattle.dt_request.specs.declared.line.Line.TheVariants as line
 use Rattle.dt_request.specs.declared.draft.Entry.{Entry}
 use Rattle.dt_request.specs.declared.draft.Entry.TheVariants as entry
-use Rattle.dt_request.specs.Lists.{AreNames, IsDemand, IsWish, access_names, IsList}
+use Rattle.dt_request.specs.declared.list.Side.{Side}
+use Rattle.dt_request.specs.declared.list.Link.{Link}
+use Rattle.dt_request.specs.declared.list.Link.TheVariants.{ShareTable, ShareCell, SharePage, ApartTable, ApartPage}
+use Rattle.dt_request.specs.Lists.{AreNames, IsDemand, IsWish, access_names, IsSide, IsLink, IsList, IsOnEnd, AsksEndsAlone}
 use Rattle.dt_request.specs.Lines.{header_of, tables_of, context_of, access_of, asked_of, end_of, spelled}
-use Rattle.dt_request.specs.Reading.{Declared, last_of, may_follow, bounds_fit, has_name, has_access, place_of, access_at, demand_of, last_demands, entry_of, meaning, at_line, grammar}
+use Rattle.dt_request.specs.Reading.{Declared, may_follow, bounds_fit, has_name, has_access, place_of, access_at, demand_of, last_demands, entry_of, meaning, at_line, grammar}
 use Rattle.dt_request.specs.Drafts.{with_demand, list_with, added}
 
 -- ---- a choice
@@ -137,17 +140,32 @@ names_with [] x = refl
 names_with (a ∷ []) x = refl
 names_with (a ∷ b ∷ wishes) x = ap (λ (ns : List Name). a.name ∷ ns) (names_with (b ∷ wishes) x)
 
-wish_with : (n : ℕ) (a : AccessWish) (x : Demand) → length a.demands < 64 → IsDemand x → IsWish n a → IsWish n (record a { demands = a.demands ++ x ∷ [] })
-wish_with n a x few x_is h = record {
+wish_with : (d : Data) (n : ℕ) (a : AccessWish) (x : Demand) → length a.demands < 64 → IsDemand d x → IsWish d n a → IsWish d n (record a { demands = a.demands ++ x ∷ [] })
+wish_with d n a x few x_is h = record {
   context = h.context;
   few_demands = omega (arith, length_push a.demands x);
-  demands = All-push IsDemand a.demands x h.demands x_is;
+  demands = All-push (IsDemand d) a.demands x h.demands x_is;
 }
 
-wishes_with : (n : ℕ) (d : List Demand) (wishes : List AccessWish) (x : Demand) → length (last_of d (map (λ (a : AccessWish). a.demands) wishes)) < 64 → IsDemand x → All (IsWish n) wishes → All (IsWish n) (with_demand wishes x)
-wishes_with n d [] x few x_is h = h
-wishes_with n d (a ∷ []) x few x_is h = All-cons (IsWish n) _ [] (wish_with n a x few x_is (All-head (IsWish n) a [] h)) (All-nil (IsWish n))
-wishes_with n d (a ∷ b ∷ wishes) x few x_is h = All-cons (IsWish n) a _ (All-head (IsWish n) a (b ∷ wishes) h) (wishes_with n a.demands (b ∷ wishes) x few x_is (All-tail (IsWish n) a (b ∷ wishes) h))
+wishes_with : (d : Data) (n : ℕ) (ds : List Demand) (wishes : List AccessWish) (x : Demand) → length (last_of ds (map (λ (a : AccessWish). a.demands) wishes)) < 64 → IsDemand d x → All (IsWish d n) wishes → All (IsWish d n) (with_demand wishes x)
+wishes_with d n ds [] x few x_is h = h
+wishes_with d n ds (a ∷ []) x few x_is h = All-cons (IsWish d n) _ [] (wish_with d n a x few x_is (All-head (IsWish d n) a [] h)) (All-nil (IsWish d n))
+wishes_with d n ds (a ∷ b ∷ wishes) x few x_is h = All-cons (IsWish d n) a _ (All-head (IsWish d n) a (b ∷ wishes) h) (wishes_with d n a.demands (b ∷ wishes) x few x_is (All-tail (IsWish d n) a (b ∷ wishes) h))
+
+-- ---- links over more accesses
+
+side_kept : (d : Data) (m n : ℕ) (s : Side) → m ≤ n → IsSide d m s → IsSide d n s
+side_kept d m n s le h = (omega (arith, h.0), h.1)
+
+link_kept : (d : Data) (m n : ℕ) → m ≤ n → (l : Link) → IsLink d m l → IsLink d n l
+link_kept d m n le (ShareTable a b) h = (side_kept d m n a le h.0, side_kept d m n b le h.1)
+link_kept d m n le (ShareCell a b) h = (side_kept d m n a le h.0, side_kept d m n b le h.1)
+link_kept d m n le (SharePage a b) h = (omega (arith, h.0), omega (arith, h.1))
+link_kept d m n le (ApartTable a b) h = (side_kept d m n a le h.0, side_kept d m n b le h.1)
+link_kept d m n le (ApartPage a b) h = (omega (arith, h.0), omega (arith, h.1))
+
+links_kept : (d : Data) (m n : ℕ) → m ≤ n → (ls : List Link) → All (IsLink d m) ls → All (IsLink d n) ls
+links_kept d m n le ls h = All-weaker (IsLink d m) (IsLink d n) (link_kept d m n le) ls h
 
 -- ---- one more entry
 
@@ -172,10 +190,12 @@ tables_kept d r lo hi fit h =
       few_accesses = h.few_accesses;
       names = h.names;
       accesses = h.accesses;
+      few_links = h.few_links;
+      links = h.links;
     }
 
-further : (m n : ℕ) (a : AccessWish) → m ≤ n → IsWish m a → IsWish n a
-further m n a le h = record { context = omega (arith, h.context); few_demands = h.few_demands; demands = h.demands }
+further : (d : Data) (m n : ℕ) (a : AccessWish) → m ≤ n → IsWish d m a → IsWish d n a
+further d m n a le h = record { context = omega (arith, h.context); few_demands = h.few_demands; demands = h.demands }
 
 context_kept : (d : Data) (r : Requests) (name : Name) → IsName name → ltb (length r.contexts) 16 ≡ true → has_name r.contexts name ≡ false → IsList d r → Leaves d r (entry.Context name)
 context_kept d r name is few none h =
@@ -187,7 +207,9 @@ context_kept d r name is few none h =
       contexts = names_push r.contexts name is none h.contexts;
       few_accesses = h.few_accesses;
       names = h.names;
-      accesses = All-weaker (IsWish (length r.contexts)) (IsWish (length (r.contexts ++ name ∷ []))) (λ a. further (length r.contexts) (length (r.contexts ++ name ∷ [])) a (omega (arith, more))) r.accesses h.accesses;
+      accesses = All-weaker (IsWish d (length r.contexts)) (IsWish d (length (r.contexts ++ name ∷ []))) (λ a. further d (length r.contexts) (length (r.contexts ++ name ∷ [])) a (omega (arith, more))) r.accesses h.accesses;
+      few_links = h.few_links;
+      links = h.links;
     }
 
 access_kept : (d : Data) (r : Requests) (name : Name) (k : ℕ) → IsName name → ltb (length r.accesses) 64 ≡ true → k < length r.contexts → has_access r.accesses name ≡ false → IsList d r → Leaves d r (entry.Access name k)
@@ -200,17 +222,21 @@ access_kept d r name k is few within none h =
       contexts = h.contexts;
       few_accesses = omega (arith, length_push r.accesses a, small);
       names = subst AreNames (sym (map_push (λ (w : AccessWish). w.name) r.accesses a)) (names_push (access_names r.accesses) name is (sym (has_access_is r.accesses name) ∙ none) h.names);
-      accesses = All-push (IsWish (length r.contexts)) r.accesses a h.accesses (record { context = within; few_demands = omega arith; demands = All-nil IsDemand });
+      accesses = All-push (IsWish d (length r.contexts)) r.accesses a h.accesses (record { context = within; few_demands = omega arith; demands = All-nil (IsDemand d) });
+      few_links = h.few_links;
+      links = links_kept d (length r.accesses) (length (r.accesses ++ a ∷ [])) (omega (arith, length_push r.accesses a)) r.links h.links;
     }
 
-demand_kept : (d : Data) (r : Requests) (x : Demand) → ltb (length (last_demands r.accesses)) 64 ≡ true → IsDemand x → IsList d r → Leaves d r (entry.Demand x)
+demand_kept : (d : Data) (r : Requests) (x : Demand) → ltb (length (last_demands r.accesses)) 64 ≡ true → IsDemand d x → IsList d r → Leaves d r (entry.Demand x)
 demand_kept d r x few is h = record {
   bounds = h.bounds;
   few_contexts = h.few_contexts;
   contexts = h.contexts;
   few_accesses = omega (arith, length_with r.accesses x, h.few_accesses);
   names = subst AreNames (sym (names_with r.accesses x)) h.names;
-  accesses = wishes_with (length r.contexts) [] r.accesses x (ltb-true (length (last_demands r.accesses)) 64 few) is h.accesses;
+  accesses = wishes_with d (length r.contexts) [] r.accesses x (ltb-true (length (last_demands r.accesses)) 64 few) is h.accesses;
+  few_links = h.few_links;
+  links = links_kept d (length r.accesses) (length (with_demand r.accesses x)) (omega (arith, length_with r.accesses x)) r.links h.links;
 }
 
 -- ---- one more line
@@ -244,42 +270,94 @@ entry_kept d r (line.Demand wanted) names h =
     ok_if (Leaves d r) (ltb (length (last_demands r.accesses)) 64) _ (Err TooMany) (λ few. asked_kept d r wanted few h) (λ e. tt)
 entry_kept d r line.End names h = h
 
-meaning_kept : (d : Data) (so : Declared) (o : Option Line) → IfSome o HasNames → IsList d so.list → IfOk (meaning d so o) (Leaves d so.list)
-meaning_kept d so None names h = tt
-meaning_kept d so (Some l) names h = ok_if (Leaves d so.list) (may_follow so.part l) (entry_of d so.list l) (Err Form) (λ e. entry_kept d so.list l names h) (λ e. tt)
+-- ---- the ends alone
 
-abbrev IsSoFar : Data → Declared → Type 0
-IsSoFar d so = IsList d so.list
+-- every access has demands on ends alone
+abbrev AreEnds : List AccessWish → Type 0
+AreEnds wishes = All (λ (a : AccessWish). All IsOnEnd a.demands) wishes
 
-result_kept : (d : Data) (so : Declared) (n : ℕ) (r : Result Entry Cause) → IfOk r (Leaves d so.list) → IfOk ((at_line n r >>= λ e. Ok (Some e)) >>= λ o. Ok (grow added so o)) (IsSoFar d)
-result_kept d so n (Ok e) h = h
-result_kept d so n (Err Form) h = tt
-result_kept d so n (Err TooMany) h = tt
-result_kept d so n (Err Unknown) h = tt
-result_kept d so n (Err Twice) h = tt
-result_kept d so n (Err OutOfRange) h = tt
+ends_with : (wishes : List AccessWish) (x : Demand) → IsOnEnd x → AreEnds wishes → AreEnds (with_demand wishes x)
+ends_with [] x is h = h
+ends_with (a ∷ []) x is h = All-cons (λ (w : AccessWish). All IsOnEnd w.demands) _ [] (All-push IsOnEnd a.demands x (All-head (λ (w : AccessWish). All IsOnEnd w.demands) a [] h) is) (All-nil (λ (w : AccessWish). All IsOnEnd w.demands))
+ends_with (a ∷ b ∷ wishes) x is h = All-cons (λ (w : AccessWish). All IsOnEnd w.demands) a _ (All-head (λ (w : AccessWish). All IsOnEnd w.demands) a (b ∷ wishes) h) (ends_with (b ∷ wishes) x is (All-tail (λ (w : AccessWish). All IsOnEnd w.demands) a (b ∷ wishes) h))
 
-row_kept : (d : Data) (so : Declared) (n : ℕ) (ts : List (List ℕ)) → IsList d so.list → IfOk (row_entry (grammar d) n so ts >>= λ o. Ok (grow added so o)) (IsSoFar d)
-row_kept d so n [] h = h
-row_kept d so n (t ∷ ts) h = result_kept d so n (meaning d so (spelled t ts)) (meaning_kept d so (spelled t ts) (spelled_names t ts) h)
+-- the entry leaves a list that asks for ends alone
+abbrev LeavesEnds : Requests → Entry → Type 0
+LeavesEnds r e = AsksEndsAlone (list_with r e)
 
-judged_kept : (d : Data) (so : Declared) (n : ℕ) (o : Option LexFault) (ts : List (List ℕ)) → IsList d so.list → IfOk (unless_faulty (λ f. faults.Lex f) o (row_entry (grammar d) n so ts) >>= λ e. Ok (grow added so e)) (IsSoFar d)
-judged_kept d so n None ts h = row_kept d so n ts h
-judged_kept d so n (Some f) ts h = tt
+demand_ends : (r : Requests) (x : Demand) → IsOnEnd x → AsksEndsAlone r → LeavesEnds r (entry.Demand x)
+demand_ends r x is h = record { demands = ends_with r.accesses x is h.demands; links = h.links }
 
-line_kept : (d : Data) (so : Declared) (n : ℕ) (bytes : List ℕ) → IsList d so.list → IfOk (line_added (grammar d) added n so bytes) (IsSoFar d)
+access_ends : (r : Requests) (name : Name) (o : Option ℕ) → AsksEndsAlone r → IfOk (access_at r name o) (LeavesEnds r)
+access_ends r name None h = tt
+access_ends r name (Some k) h = ok_if (LeavesEnds r) (has_access r.accesses name) (Err Twice) (Ok (entry.Access name k)) (λ e. tt) (λ e. record { demands = All-push (λ (a : AccessWish). All IsOnEnd a.demands) r.accesses (record { name = name; context = k; demands = [] }) h.demands (All-nil IsOnEnd); links = h.links })
+
+asked_ends : (r : Requests) (wanted : Asked) → AsksEndsAlone r → IfOk (demand_of wanted >>= λ x. Ok (entry.Demand x)) (LeavesEnds r)
+asked_ends r asked.EndDone h = demand_ends r EndDone tt h
+asked_ends r (asked.EndFault code) h = fault_ends (leb code 65535)
+  where
+    fault_ends : (b : Bool) → IfOk (cond b (Ok (EndFault code)) (Err OutOfRange) >>= λ x. Ok (entry.Demand x)) (LeavesEnds r)
+    fault_ends true = demand_ends r (EndFault code) tt h
+    fault_ends false = tt
+
+entry_ends : (d : Data) (r : Requests) (l : Line) → AsksEndsAlone r → IfOk (entry_of d r l) (LeavesEnds r)
+entry_ends d r line.Header h = h
+entry_ends d r (line.Tables lo hi) h = ok_if (LeavesEnds r) (bounds_fit d lo hi) (Ok (entry.Tables lo hi)) (Err OutOfRange) (λ e. record { demands = h.demands; links = h.links }) (λ e. tt)
+entry_ends d r (line.Context name) h =
+    ok_if (LeavesEnds r) (ltb (length r.contexts) 16) _ (Err TooMany)
+    (λ few. ok_if (LeavesEnds r) (has_name r.contexts name) (Err Twice) (Ok (entry.Context name)) (λ e. tt) (λ e. record { demands = h.demands; links = h.links }))
+    (λ e. tt)
+entry_ends d r (line.Access name context) h = ok_if (LeavesEnds r) (ltb (length r.accesses) 64) _ (Err TooMany) (λ e. access_ends r name (place_of r.contexts context) h) (λ e. tt)
+entry_ends d r (line.Demand wanted) h = ok_if (LeavesEnds r) (ltb (length (last_demands r.accesses)) 64) _ (Err TooMany) (λ e. asked_ends r wanted h) (λ e. tt)
+entry_ends d r line.End h = h
+
+-- ---- a line leaves what each entry leaves
+
+-- what holds of the list so far holds with the entry of one more line
+abbrev Keeps : (Requests → Type 0) → Data → Type 0
+Keeps P d = (r : Requests) (l : Line) → HasNames l → P r → IfOk (entry_of d r l) (λ e. P (list_with r e))
+
+meaning_kept : (P : Requests → Type 0) (d : Data) → Keeps P d → (so : Declared) (o : Option Line) → IfSome o HasNames → P so.list → IfOk (meaning d so o) (λ e. P (list_with so.list e))
+meaning_kept P d keeps so None names h = tt
+meaning_kept P d keeps so (Some l) names h = ok_if (λ e. P (list_with so.list e)) (may_follow so.part l) (entry_of d so.list l) (Err Form) (λ e. keeps so.list l names h) (λ e. tt)
+
+result_kept : (P : Requests → Type 0) (so : Declared) (n : ℕ) (r : Result Entry Cause) → IfOk r (λ e. P (list_with so.list e)) → IfOk ((at_line n r >>= λ e. Ok (Some e)) >>= λ o. Ok (grow added so o)) (λ (s : Declared). P s.list)
+result_kept P so n (Ok e) h = h
+result_kept P so n (Err Form) h = tt
+result_kept P so n (Err TooMany) h = tt
+result_kept P so n (Err Unknown) h = tt
+result_kept P so n (Err Twice) h = tt
+result_kept P so n (Err OutOfRange) h = tt
+
+row_kept : (P : Requests → Type 0) (d : Data) → Keeps P d → (so : Declared) (n : ℕ) (ts : List (List ℕ)) → P so.list → IfOk (row_entry (grammar d) n so ts >>= λ o. Ok (grow added so o)) (λ (s : Declared). P s.list)
+row_kept P d keeps so n [] h = h
+row_kept P d keeps so n (t ∷ ts) h = result_kept P so n (meaning d so (spelled t ts)) (meaning_kept P d keeps so (spelled t ts) (spelled_names t ts) h)
+
+judged_kept : (P : Requests → Type 0) (d : Data) → Keeps P d → (so : Declared) (n : ℕ) (o : Option LexFault) (ts : List (List ℕ)) → P so.list → IfOk (unless_faulty (λ f. faults.Lex f) o (row_entry (grammar d) n so ts) >>= λ e. Ok (grow added so e)) (λ (s : Declared). P s.list)
+judged_kept P d keeps so n None ts h = row_kept P d keeps so n ts h
+judged_kept P d keeps so n (Some f) ts h = tt
+
+line_kept : (P : Requests → Type 0) (d : Data) → Keeps P d → (so : Declared) (n : ℕ) (bytes : List ℕ) → P so.list → IfOk (line_added (grammar d) added n so bytes) (λ (s : Declared). P s.list)
 unfolding line_entry
-line_kept d so n bytes h = judged_kept d so n (fault_of n bytes) (tokens_of bytes) h
+line_kept P d keeps so n bytes h = judged_kept P d keeps so n (fault_of n bytes) (tokens_of bytes) h
 
 pub list_kept : (d : Data) (so new : Declared) (n : ℕ) (bytes : List ℕ) → line_added (grammar d) added n so bytes ≡ Ok new → IsList d so.list → IsList d new.list
-list_kept d so new n bytes e h = subst (λ (r : Result Declared RequestFault). IfOk r (IsSoFar d)) e (line_kept d so n bytes h)
+list_kept d so new n bytes e h = subst (λ (r : Result Declared RequestFault). IfOk r (λ (s : Declared). IsList d s.list)) e (line_kept (IsList d) d (entry_kept d) so n bytes h)
 
-pub list_start : (d : Data) → IsList d (record { lo = 0; hi = 0; contexts = []; accesses = [] })
+pub ends_kept : (d : Data) (so new : Declared) (n : ℕ) (bytes : List ℕ) → line_added (grammar d) added n so bytes ≡ Ok new → AsksEndsAlone so.list → AsksEndsAlone new.list
+ends_kept d so new n bytes e h = subst (λ (r : Result Declared RequestFault). IfOk r (λ (s : Declared). AsksEndsAlone s.list)) e (line_kept AsksEndsAlone d (λ r l names. entry_ends d r l) so n bytes h)
+
+pub ends_start : AsksEndsAlone (record { lo = 0; hi = 0; contexts = []; accesses = []; links = [] })
+ends_start = record { demands = All-nil (λ (a : AccessWish). All IsOnEnd a.demands); links = refl }
+
+pub list_start : (d : Data) → IsList d (record { lo = 0; hi = 0; contexts = []; accesses = []; links = [] })
 list_start d = record {
   bounds = record { lo_whole = omega arith; hi_whole = omega arith; rising = omega arith; within = omega arith };
   few_contexts = omega arith;
   contexts = record { spelled = All-nil IsName; distinct = λ i j n l m. absurd (omega arith) };
   few_accesses = omega arith;
   names = record { spelled = All-nil IsName; distinct = λ i j n l m. absurd (omega arith) };
-  accesses = All-nil (IsWish 0);
+  accesses = All-nil (IsWish d 0);
+  few_links = omega arith;
+  links = All-nil (IsLink d 0);
 }

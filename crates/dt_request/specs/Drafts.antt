@@ -11,11 +11,11 @@ use Rattle.dt_request.specs.Reading.{Declared, part_of}
 
 -- a draft without where it lies in memory
 abbrev pub drafted : Draft → Declared
-drafted d = record { part = d.part; list = record { lo = d.lo; hi = d.hi; contexts = d.contexts.items; accesses = d.accesses.items } }
+drafted d = record { part = d.part; list = record { lo = d.lo; hi = d.hi; contexts = d.contexts.items; accesses = d.accesses.items; links = [] } }
 
 -- what no line declares
 abbrev pub nothing : Declared
-nothing = record { part = Start; list = record { lo = 0; hi = 0; contexts = []; accesses = [] } }
+nothing = record { part = Start; list = record { lo = 0; hi = 0; contexts = []; accesses = []; links = [] } }
 
 -- one more demand of the last access
 abbrev pub with_demand : List AccessWish → Demand → List AccessWish

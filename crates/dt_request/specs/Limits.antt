@@ -10,3 +10,6 @@ most_accesses = 64
 -- of one access
 abbrev pub most_demands : ℕ
 most_demands = 64
+
+abbrev pub most_links : ℕ
+most_links = 256

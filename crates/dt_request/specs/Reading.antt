@@ -3,8 +3,7 @@ use Rattle.std.specs.Prelude.{ℕ, ◌/◌, ◌%◌, ◌^◌, ◌==◌, nat_lt, 
 use Rattle.std.specs.List.{flat_map, list_any}
 use Rattle.dt_lex.specs.declared.name.Name.{Name}
 use Rattle.dt_lex.specs.Names.{same_name}
-use Rattle.dt_lex.specs.Text.{is_thin}
-use Rattle.dt_lex.specs.Reading.{Grammar, ◌>>=◌, reading_of}
+use Rattle.dt_lex.specs.Reading.{last_of, Grammar, ◌>>=◌, reading_of}
 use Rattle.dt_model.specs.Limits.{most_code}
 use Rattle.dt_model.specs.Data.{Data}
 use Rattle.dt_request.specs.declared.fault.RequestFault.{RequestFault}
@@ -41,11 +40,6 @@ part_of (entry.Access name context) = Accesses
 part_of (entry.Demand demand) = Accesses
 part_of entry.End = Over
 
--- the last of a list, or d
-abbrev pub last_of : {X : Type 0} → X → List X → X
-last_of d [] = d
-last_of d (x ∷ xs) = last_of x xs
-
 abbrev pub bounds_in : Entry → List (ℕ × ℕ)
 bounds_in (entry.Tables lo hi) = (lo, hi) ∷ []
 bounds_in _ = []
@@ -75,6 +69,7 @@ declared es = record {
     hi = (last_of (0, 0) (flat_map bounds_in es)).1;
     contexts = flat_map contexts_in es;
     accesses = accesses_in es;
+    links = [];
   };
 }
 
@@ -173,7 +168,7 @@ finished n so = list_at_end n so.part so.list
 
 -- the list of the model that a text spells, or what is wrong with its first bad line
 unfoldable pub list_in : Data → List ℕ → Result Requests RequestFault
-list_in d text = if is_thin text then reading_of (grammar d) finished text else Err faults.NotThin
+list_in d text = reading_of (grammar d) finished text
 
 abbrev pub is_memory : RequestFault → Bool
 is_memory faults.Memory = true

@@ -73,8 +73,8 @@ impl Draft {
         }
     }
 
-    /// The list that was drafted. It takes no memory.
-    pub fn into_list(self) -> Requests
+    /// The list that was drafted, which has no links. It takes no memory.
+    pub fn into_list(self, alloc: Global) -> Requests
         ensures { result ≡ (drafted self).list }
     {
         Requests {
@@ -82,6 +82,7 @@ impl Draft {
             hi: self.hi,
             contexts: Seq::from_vec(self.contexts),
             accesses: Seq::from_vec(self.accesses),
+            links: Seq::new(alloc),
         }
     }
 

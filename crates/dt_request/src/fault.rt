@@ -5,14 +5,12 @@ use dt_bits::NoMemory;
 use dt_lex::LexFault;
 use std::alloc::AllocFailed;
 
-/// Why a text is no request list: want of memory; a byte that a thin text doesn't have; or the
-/// first bad line, counted from 1, with the first thing in this order that is wrong with it.
+/// Why a text is no request list: want of memory, or the first bad line, counted from 1, with the
+/// first thing in this order that is wrong with it.
 #[derive(Clone, Copy, Debug, PartialEq, Eq)]
 pub enum RequestFault {
     /// Memory was wanted and not found.
     Memory,
-    /// The text has a byte that is neither a line feed nor from 0x20 to 0x7e, or it has a `#`.
-    NotThin,
     /// The bytes of the line are at fault; it is never `LexFault::Memory`.
     Lex(LexFault),
     /// The line doesn't have the shape that is given for its place.

@@ -2,7 +2,7 @@ ghost use Rattle.std.specs.Prelude.{◌≡◌, ◌^◌, ◌-◌, ◌<◌, ◌≤
 ghost use Rattle.dt_lex.specs.Reading.{Gives, line_added};
 ghost use Rattle.dt_model.specs.Accepted.{accepted_data};
 ghost use Rattle.dt_request.specs.Limits.{most_contexts};
-ghost use Rattle.dt_request.specs.Lists.{IsList};
+ghost use Rattle.dt_request.specs.Lists.{IsList, AsksEndsAlone};
 ghost use Rattle.dt_request.specs.Drafts.{drafted, added};
 ghost use Rattle.dt_request.specs.Reading.{fault_at, grammar, finished, list_in, is_memory};
 
@@ -11,7 +11,7 @@ use crate::fault::{Cause, RequestFault};
 use crate::judging::meaning;
 use crate::line::read_line;
 use crate::list::Requests;
-use dt_lex::{fault_in, is_thin, next_line, next_token};
+use dt_lex::{fault_in, next_line, next_token};
 use dt_model::Accepted;
 use std::alloc::Global;
 
@@ -55,13 +55,13 @@ fn add_line(
     }
 }
 
-/// The list of the model that the text spells. It takes memory for the list alone.
+/// The list of the model that the text spells. Its demands are on the ends of walks, and it has no
+/// links. It takes memory for the list alone.
 ///
 /// # Errors
 ///
-/// The first bad line, counted from 1, and the first thing that is wrong with it; `NotThin` before
-/// all of these; `Memory` where memory is wanting. A text that ends without `end` has the fault
-/// `Form` at the line after its last.
+/// The first bad line, counted from 1, and the first thing that is wrong with it; `Memory` where
+/// memory is wanting. A text that ends without `end` has the fault `Form` at the line after its last.
 pub fn read_requests(
     alloc: Global,
     model: &Accepted,
@@ -70,10 +70,8 @@ pub fn read_requests(
     requires { length bytes.now < 2 ^ 32 - 1 }
     ensures read { Gives is_memory (λ r. r) result (list_in (accepted_data model.now) bytes.now) }
     ensures list { IfOk result (IsList (accepted_data model.now)) }
+    ensures ends { IfOk result AsksEndsAlone }
 {
-    if !is_thin(bytes) {
-        return Err(RequestFault::NotThin);
-    }
     let mut draft = Draft::new(alloc);
     let mut number = 1u32;
     let mut rest = bytes;
@@ -83,7 +81,7 @@ pub fn read_requests(
         rest = after;
     }
     if draft.part == Part::Over {
-        Ok(draft.into_list())
+        Ok(draft.into_list(alloc))
     } else {
         Err(RequestFault::Form(number))
     }

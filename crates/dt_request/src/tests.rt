@@ -1,12 +1,12 @@
 use crate::{Demand, RequestFault, choice_bits, choice_count, read_requests};
 use dt_bits::Seq;
-use dt_lex::Name;
+use dt_lex::{LexFault, Name};
 use dt_model::{Accepted, Act, Model, Named, Node};
 use std::alloc::Global;
 use std::test::Fail;
 
 const ONE_FAULT: &[u8] =
-    b"requests 1\ntables 0x1000 0x2000\ncontext c0\naccess a0 c0\nends fault 5\nend\n";
+    b"requests 1\ntables 0x1000 0x2000\n# x\ncontext\tc0\r\naccess a0 c0\nends fault 5\nend\n";
 
 // A register of 16 bits, an input of 8, and one node, which faults.
 fn model(alloc: Global) -> Result<Accepted, Fail> {
@@ -55,45 +55,45 @@ fn reads_a_list(rt: HostRuntime) -> Result<(), Fail> {
     Ok(())
 }
 
+/// The fault of a text whose first two lines are lawful, and then these lines.
+fn fault_after(
+    rt: &HostRuntime,
+    model: &Accepted,
+    lines: &[u8],
+) -> Result<Option<RequestFault>, Fail> {
+    let mut text = Vec::from_slice(rt.alloc(), b"requests 1\ntables 0 8\n")?;
+    text.extend_from_slice(lines)?;
+    if text.len() > 1000 {
+        return Err(Fail::from("long"));
+    }
+    Ok(read_requests(rt.alloc(), model, text.as_slice()).err())
+}
+
+#[test]
+fn the_first_lines_are_fixed(rt: HostRuntime) -> Result<(), Fail> {
+    let model = model(rt.alloc())?;
+    let alloc = rt.alloc();
+    let none = read_requests(alloc, &model, b"").err();
+    assert_eq!(rt; none, Some(RequestFault::Form(1)));
+    let header = read_requests(alloc, &model, b"requests 0x1\n").err();
+    assert_eq!(rt; header, Some(RequestFault::Form(1)));
+    let bounds = read_requests(alloc, &model, b"requests 1\ntables 16 8\n").err();
+    assert_eq!(rt; bounds, Some(RequestFault::OutOfRange(2)));
+    Ok(())
+}
+
 #[test]
 fn names_the_first_bad_line(rt: HostRuntime) -> Result<(), Fail> {
     let model = model(rt.alloc())?;
-    for (text, fault) in [
-        (b"".as_slice(), RequestFault::Form(1)),
-        (b"requests 0x1\n", RequestFault::Form(1)),
-        (b"requests 1\n\ntables 0 16\n", RequestFault::Form(4)),
-        (
-            b"requests 1\ntables 0 16\nend\nend\n",
-            RequestFault::Form(4),
-        ),
-        (
-            b"requests 1\ntables 0 16\nends done\nend\n",
-            RequestFault::Form(3),
-        ),
-        (
-            b"requests 1\ntables 0 12\nend\n",
-            RequestFault::OutOfRange(2),
-        ),
-        (
-            b"requests 1\ntables 16 8\nend\n",
-            RequestFault::OutOfRange(2),
-        ),
-        (
-            b"requests 1\ntables 0 0x10008\nend\n",
-            RequestFault::OutOfRange(2),
-        ),
-        (
-            b"requests 1\ntables 0 8\ncontext c\ncontext c\n",
-            RequestFault::Twice(4),
-        ),
-        (
-            b"requests 1\ntables 0 8\ncontext c\naccess a d\n",
-            RequestFault::Unknown(4),
-        ),
-        (b"requests 1 # one\n", RequestFault::NotThin),
+    for (lines, fault) in [
+        (b"".as_slice(), RequestFault::Form(3)),
+        (b"# c\n\x01", RequestFault::Lex(LexFault::BadByte(4))),
+        (b"end\nend", RequestFault::Form(4)),
+        (b"ends done", RequestFault::Form(3)),
+        (b"context c\ncontext c", RequestFault::Twice(4)),
+        (b"context c\naccess a d", RequestFault::Unknown(4)),
     ] {
-        assert!(rt; text.len() < 100);
-        assert_eq!(rt; read_requests(rt.alloc(), &model, text).err(), Some(fault));
+        assert_eq!(rt; fault_after(&rt, &model, lines)?, Some(fault));
     }
     Ok(())
 }

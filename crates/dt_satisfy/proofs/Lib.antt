@@ -3,3 +3,6 @@ pub mod Pushed
 pub mod Places
 pub mod Counts
 pub mod Verdicts
+pub mod Sides
+pub mod Turning
+pub mod Joined

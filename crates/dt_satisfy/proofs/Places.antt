@@ -9,7 +9,10 @@ use Rattle.dt_walk.specs.Walks.{RunData, walk_of}
 use Rattle.dt_request.specs.declared.list.AccessWish.{AccessWish}
 use Rattle.dt_image.specs.declared.image.Image.{Image}
 use Rattle.dt_image.specs.declared.image.ImageAccess.{ImageAccess}
-use Rattle.dt_satisfy.specs.Claims.{registers, run_of, runs_of}
+use Rattle.dt_walk.specs.declared.run.Run.{Run}
+use Rattle.dt_walk.specs.Walkers.{run_data}
+use Rattle.dt_satisfy.specs.Demands.{Made}
+use Rattle.dt_satisfy.specs.Claims.{registers, run_of, runs_of, made_of, all_made}
 
 -- what holds of each element holds of the one at i
 pub each_at : {X : Type 0} (P : X → Type 0) (xs : List X) (i : ℕ) (x : X) → AllByRecursion P xs → i < length xs → x ≡ get_or xs i x → P x
@@ -31,16 +34,25 @@ run_made d w image a regs inputs memory run h e r i m =
     ∙ ap (λ (x : List ℕ). walk_of d (registers image a) x memory) i
     ∙ ap (walk_of d (registers image a) a.inputs) m
 
-pub run_at : (d : Data) (image : Image) (accesses : List ImageAccess) (i : ℕ) (a : ImageAccess) (run : RunData) → accesses ≡ image.accesses → i < length accesses → a ≡ get_or accesses i a → run ≡ run_of d image a → run ≡ get_or (runs_of d image) i run
-run_at d image accesses i a run e l h r =
+-- the run at a place is that of the access there
+pub run_at : (d : Data) (image : Image) (accesses : List ImageAccess) (runs : List Run) (i : ℕ) (a : ImageAccess) (r : Run) → accesses ≡ image.accesses → map run_data runs ≡ runs_of d image → i < length accesses → i < length runs → a ≡ get_or accesses i a → r ≡ get_or runs i r → run_data r ≡ run_of d image a
+run_at d image accesses runs i a r e s l m h g =
     let n : i < length image.accesses = subst (λ (xs : List ImageAccess). i < length xs) e l in
-    r
-    ∙ ap (run_of d image) (h ∙ ap (λ (xs : List ImageAccess). get_or xs i a) e)
-    ∙ sym (get_or-map (run_of d image) image.accesses i a run n)
+    ap run_data g
+    ∙ sym (get_or-map run_data runs i r (run_data r) m)
+    ∙ ap (λ (xs : List RunData). get_or xs i (run_data r)) s
+    ∙ get_or-map (run_of d image) image.accesses i a (run_data r) n
+    ∙ ap (run_of d image) (sym (h ∙ ap (λ (xs : List ImageAccess). get_or xs i a) e))
 
-pub pair_at : (runs : List RunData) (wishes : List AccessWish) (i : ℕ) (run : RunData) (wish : AccessWish) → i < length runs → i < length wishes → run ≡ get_or runs i run → wish ≡ get_or wishes i wish → (run, wish) ≡ get_or (zip runs wishes) i (run, wish)
+pub made_at : (d : Data) (image : Image) (accesses : List ImageAccess) (i : ℕ) (a : ImageAccess) → accesses ≡ image.accesses → i < length accesses → a ≡ get_or accesses i a → made_of d image a ≡ get_or (all_made d image) i (made_of d image a)
+made_at d image accesses i a e l h =
+    let n : i < length image.accesses = subst (λ (xs : List ImageAccess). i < length xs) e l in
+    ap (made_of d image) (h ∙ ap (λ (xs : List ImageAccess). get_or xs i a) e)
+    ∙ sym (get_or-map (made_of d image) image.accesses i a (made_of d image a) n)
+
+pub pair_at : (runs : List Made) (wishes : List AccessWish) (i : ℕ) (run : Made) (wish : AccessWish) → i < length runs → i < length wishes → run ≡ get_or runs i run → wish ≡ get_or wishes i wish → (run, wish) ≡ get_or (zip runs wishes) i (run, wish)
 pair_at runs wishes i run wish l m r w =
-    ap (λ (x : RunData). (x, wish)) r
+    ap (λ (x : Made). (x, wish)) r
     ∙ ap (λ (y : AccessWish). (get_or runs i run, y)) w
     ∙ sym (get_or-zip runs wishes i (run, wish) l m)
 

@@ -1,20 +1,17 @@
 -- The claims of a request list about an image, in order.
-use Rattle.std.specs.Prelude.{ℕ, ◌==◌, Bool, true, false, List, [], ◌∷◌, ◌++◌, Option, Some, map, slice_get, slice_index_or}
+use Rattle.std.specs.Prelude.{ℕ, Bool, List, [], ◌∷◌, ◌++◌, map, slice_index_or}
 use Rattle.std.specs.List.{flat_map, zip}
-use Rattle.dt_model.specs.Data.{Data, Step, read}
+use Rattle.dt_model.specs.Data.{Data}
 use Rattle.dt_model.specs.Faults.{steps}
-use Rattle.dt_walk.specs.declared.run.End.{End}
-use Rattle.dt_walk.specs.declared.run.End.TheVariants.{Done, Fault}
-use Rattle.dt_walk.specs.declared.run.ReadMade.{ReadMade}
 use Rattle.dt_walk.specs.Meaning.{rule_holds}
 use Rattle.dt_walk.specs.Walks.{RunData, walk_of}
-use Rattle.dt_request.specs.declared.list.Demand.{Demand}
-use Rattle.dt_request.specs.declared.list.Demand.TheVariants.{EndDone, EndFault}
 use Rattle.dt_request.specs.declared.list.Requests.{Requests}
 use Rattle.dt_image.specs.declared.image.Image.{Image}
 use Rattle.dt_image.specs.declared.image.ImageAccess.{ImageAccess}
-use Rattle.dt_satisfy.specs.declared.block.Block.{Block}
-use Rattle.dt_satisfy.specs.Blocks.{block_at, are_apart}
+use Rattle.dt_satisfy.specs.Blocks.{are_apart}
+use Rattle.dt_satisfy.specs.Turns.{leaves, turns_of}
+use Rattle.dt_satisfy.specs.Demands.{Made, meets}
+use Rattle.dt_satisfy.specs.Links.{pages_of, tables_of, link_holds}
 
 -- ---- runs
 
@@ -29,37 +26,12 @@ run_of d i a = walk_of d (registers i a) a.inputs i.memory
 abbrev pub runs_of : Data → Image → List RunData
 runs_of d i = map (run_of d i) i.accesses
 
--- ---- demands
+-- an access, with its run
+abbrev pub made_of : Data → Image → ImageAccess → Made
+made_of d i a = record { regs = registers i a; inputs = a.inputs; run = run_of d i a; left_by = leaves (turns_of d (registers i a) a.inputs i.memory) }
 
-abbrev pub ends_as : End → Demand → Bool
-ends_as (Done n pa page) EndDone = true
-ends_as (Fault n code) (EndFault asked) = code == asked
-ends_as _ _ = false
-
--- the run meets the demand
-abbrev pub meets : RunData → Demand → Bool
-meets run demand = ends_as run.end demand
-
--- ---- pages and tables
-
--- the page of a run that ends with a result: the block of its page exponent that holds pa
-abbrev pub page_of : End → List Block
-page_of (Done n pa page) = block_at pa page ∷ []
-page_of (Fault n code) = []
-
-abbrev pub pages_of : List RunData → List Block
-pages_of runs = flat_map (λ run. page_of run.end) runs
-
-abbrev pub step_granule : Option Step → ℕ
-step_granule (Some (read x e granule t o)) = granule
-step_granule _ = 0
-
--- the table of a made read: the block of its node's granule that holds its cell
-abbrev pub table_of : List Step → ReadMade → Block
-table_of steps made = block_at made.cell (step_granule (slice_get steps made.node))
-
-abbrev pub tables_of : List Step → List RunData → List Block
-tables_of steps runs = flat_map (λ run. map (table_of steps) run.reads) runs
+abbrev pub all_made : Data → Image → List Made
+all_made d i = map (made_of d i) i.accesses
 
 -- ---- claims
 
@@ -73,11 +45,15 @@ access_claims d i = flat_map (λ a. map (rule_holds d (registers i a) a.inputs) 
 
 -- for each access each of its demands
 abbrev pub demand_claims : Data → Requests → Image → List Bool
-demand_claims d r i = flat_map (λ p. map (meets p.0) p.1.demands) (zip (runs_of d i) r.accesses)
+demand_claims d r i = flat_map (λ p. map (meets p.0) p.1.demands) (zip (all_made d i) r.accesses)
+
+-- each link
+abbrev pub link_claims : Data → Requests → Image → List Bool
+link_claims d r i = map (link_holds (steps d) (runs_of d i)) r.links
 
 -- no page of any run overlaps a table of any run
 abbrev pub apart_claim : Data → Image → Bool
 apart_claim d i = are_apart (pages_of (runs_of d i)) (tables_of (steps d) (runs_of d i))
 
 abbrev pub claims : Data → Requests → Image → List Bool
-claims d r i = context_claims d i ++ access_claims d i ++ demand_claims d r i ++ apart_claim d i ∷ []
+claims d r i = context_claims d i ++ access_claims d i ++ demand_claims d r i ++ link_claims d r i ++ apart_claim d i ∷ []

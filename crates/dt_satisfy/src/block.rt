@@ -1,6 +1,6 @@
 ghost use Rattle.std.specs.Prelude.{◌≡◌, ◌/◌, ◌%◌, ◌^◌};
 ghost use Rattle.std.specs.List.{list_any};
-ghost use Rattle.dt_satisfy.specs.Blocks.{block_at, overlap, are_apart};
+ghost use Rattle.dt_satisfy.specs.Blocks.{block_at, is_block, overlap, are_apart};
 
 /// The 2^exponent bytes from `start`, which is a multiple of 2^exponent.
 #[derive(Clone, Copy, Debug, PartialEq, Eq)]
@@ -41,8 +41,15 @@ pub fn block_at(address: u128, exponent: u32) -> Block
     }
 }
 
-// Whether the blocks overlap.
-fn overlap(block: Block, other: Block) -> bool
+/// Whether the two are one block.
+pub fn is_block(block: Block, other: Block) -> bool
+    ensures { result ≡ is_block block other }
+{
+    block.start == other.start && block.exponent == other.exponent
+}
+
+/// Whether the blocks overlap.
+pub fn overlap(block: Block, other: Block) -> bool
     ensures { result ≡ overlap block other }
 {
     let larger = block.exponent.max(other.exponent);

@@ -1,19 +1,26 @@
-ghost use Rattle.std.specs.Prelude.{◌≡◌, ◌↔◌, ◌<◌, ◌+◌, ◌^◌, not, length, position, IfOk, IfSome};
+ghost use Rattle.std.specs.Prelude.{◌≡◌, ◌↔◌, ◌<◌, ◌+◌, ◌^◌, not, length, map, position, IfOk, IfSome};
 ghost use Rattle.std.specs.Option.{ForSome};
 ghost use Rattle.dt_model.specs.Accepted.{accepted_data};
+ghost use Rattle.dt_model.specs.Flow.{steps_of};
+ghost use Rattle.dt_walk.specs.Walkers.{run_data};
 ghost use Rattle.dt_request.specs.Lists.{IsList};
 ghost use Rattle.dt_image.specs.Images.{IsImage};
+ghost use Rattle.dt_satisfy.specs.Blocks.{are_apart};
+ghost use Rattle.dt_satisfy.specs.Demands.{TellsSides};
+ghost use Rattle.dt_satisfy.specs.Links.{pages_of, tables_of};
 ghost use Rattle.dt_satisfy.specs.Claims.{claims};
 ghost use Rattle.dt_satisfy.specs.Satisfies.{Matches, Satisfies, verdict_of};
 
 use crate::Judged;
 use crate::block::are_apart;
+use crate::links::{push_links, push_pages, push_tables};
 use crate::rules::{push_access_claims, push_context_claims};
-use crate::runs::find;
+use crate::runs::{all_runs, push_demand_claims};
 use dt_bits::NoMemory;
 use dt_image::Image;
-use dt_model::Accepted;
+use dt_model::{Accepted, Node};
 use dt_request::Requests;
+use dt_walk::Run;
 use std::alloc::Global;
 
 // The position of the first claim that doesn't hold.
@@ -35,6 +42,18 @@ fn verdict(first: Option<usize>) -> Judged
     }
 }
 
+// Whether no page of a run overlaps a table of any run.
+fn lie_apart(alloc: Global, nodes: &[Node], runs: &[Run]) -> Result<bool, NoMemory>
+    ensures { IfOk result (λ apart. apart ≡ are_apart (pages_of (map run_data runs.now))
+        (tables_of (steps_of nodes.now) (map run_data runs.now))) }
+{
+    let mut pages = Vec::new(alloc);
+    push_pages(runs, &mut pages)?;
+    let mut tables = Vec::new(alloc);
+    push_tables(nodes, runs, &mut tables)?;
+    Ok(are_apart(pages.as_slice(), tables.as_slice()))
+}
+
 // Whether each claim holds, in order.
 fn all_claims(
     alloc: Global,
@@ -44,22 +63,32 @@ fn all_claims(
 ) -> Result<Vec<bool>, NoMemory>
     requires image { IsImage (accepted_data model.now) image.now }
     requires matches { Matches requests.now image.now }
+    requires list { IsList (accepted_data model.now) requests.now }
+    requires takes { TellsSides (accepted_data model.now) requests.now }
     ensures { IfOk result (λ held. held.items ≡ claims (accepted_data model.now) requests.now image.now) }
 {
     let mut claims = Vec::new(alloc);
     push_context_claims(model, image, &mut claims)?;
     push_access_claims(model, image, &mut claims)?;
-    let mut findings = find(alloc, model, requests, image, claims)?;
-    let apart = are_apart(findings.pages.as_slice(), findings.tables.as_slice());
-    findings.claims.push(apart)?;
-    Ok(findings.claims)
+    let runs = all_runs(alloc, model, image)?;
+    push_demand_claims(model, requests, image, runs.as_slice(), &mut claims)?;
+    let nodes = model.model().nodes.as_slice();
+    push_links(
+        nodes,
+        runs.as_slice(),
+        requests.links.as_slice(),
+        &mut claims,
+    )?;
+    claims.push(lie_apart(alloc, nodes, runs.as_slice())?)?;
+    Ok(claims)
 }
 
 /// Whether the image meets the list: whether all claims hold, or which is the first that doesn't.
 /// The claims are in order: for each context each context rule is 1; for each access each access
-/// rule is 1; for each access each of its demands is met by its run; and last, one claim, no page
-/// of a run overlaps a table of any run. The image and the list are of the model, and match. It
-/// takes time for each access's walk, and for each page with each table.
+/// rule is 1; for each access each of its demands is met by its run; each link holds; and last, one
+/// claim, no page of a run overlaps a table of any run. The image and the list are of the model, and
+/// match, and no demand is on a side of an if whose sides lead to the same node. It takes memory for a run of each access, and time for each
+/// access's walk, and for each page with each table.
 pub fn judge(
     alloc: Global,
     model: &Accepted,
@@ -69,6 +98,7 @@ pub fn judge(
     requires list { IsList (accepted_data model.now) requests.now }
     requires image { IsImage (accepted_data model.now) image.now }
     requires matches { Matches requests.now image.now }
+    requires takes { TellsSides (accepted_data model.now) requests.now }
     ensures verdict { IfOk result (λ found. found ≡
         verdict_of (position not (claims (accepted_data model.now) requests.now image.now))) }
     ensures satisfies { IfOk result (λ found. (found ≡ Judged.Satisfies) ↔

@@ -1,18 +1,21 @@
 //! The judge: whether an image meets a request list. It walks the model's graph for each access of
 //! the image, and asks in order whether the model's rules of legality hold, whether each demand is
-//! met, and whether no page of a run overlaps a table of any run.
+//! met, whether each link holds, and whether no page of a run overlaps a table of any run.
 //!
 //! Proved: `matches` holds exactly where the image has the list's table bounds, as many contexts, as
 //! many accesses, and each access its context; `judge` gives `Satisfies` exactly where all claims of
 //! the list about the image hold, and else `Breaks` with the number, counted from 1, of the first
-//! that doesn't.
+//! that doesn't, for every list of the model in which no demand is on a side of an if whose sides lead
+//! to the same node (`TellsSides` of `specs/Demands.antt`): a run doesn't tell such sides apart. The
+//! definitions say what each demand means, also there.
 //!
 //! Only tested: that `judge` succeeds where there is memory; what `Debug` prints.
 #![tactic(auto)]
 
 mod block;
-mod findings;
+mod demands;
 mod judging;
+mod links;
 mod matching;
 mod rules;
 mod runs;

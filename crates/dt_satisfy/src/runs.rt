@@ -1,47 +1,77 @@
-ghost use Rattle.std.specs.Prelude.{◌≡◌, ◌<◌, ◌++◌, List, ℕ, [], length, map, IfOk};
+ghost use Rattle.std.specs.Prelude.{◌≡◌, ◌<◌, ◌++◌, List, ℕ, length, map, IfOk, OnOk};
 ghost use Rattle.dt_model.specs.Accepted.{accepted_data};
-ghost use Rattle.dt_model.specs.Faults.{steps};
+ghost use Rattle.dt_walk.specs.Walkers.{run_data};
+ghost use Rattle.dt_request.specs.Lists.{IsList};
 ghost use Rattle.dt_image.specs.Images.{IsImage};
-ghost use Rattle.dt_satisfy.specs.Claims.{demand_claims, runs_of, pages_of, tables_of};
+ghost use Rattle.dt_satisfy.specs.Claims.{runs_of, demand_claims};
+ghost use Rattle.dt_satisfy.specs.Demands.{TellsSides};
 ghost use Rattle.dt_satisfy.specs.Satisfies.{Matches};
 
-use crate::findings::Findings;
+use crate::demands::{Seen, push_demands};
 use dt_bits::NoMemory;
 use dt_image::Image;
 use dt_model::Accepted;
 use dt_request::Requests;
-use dt_walk::Walker;
+use dt_walk::{Run, Walker};
 use std::alloc::Global;
 
-/// What the runs of all accesses come to, after these claims.
-pub fn find(
-    alloc: Global,
+// A copy of a run.
+fn copy(alloc: Global, run: &Run) -> Result<Run, NoMemory>
+    ensures { IfOk result (λ r. run_data r ≡ run_data run.now) }
+{
+    Ok(Run {
+        path: Vec::from_slice(alloc, run.path.as_slice())?,
+        reads: Vec::from_slice(alloc, run.reads.as_slice())?,
+        end: run.end,
+    })
+}
+
+/// The runs of all accesses of the image.
+pub fn all_runs(alloc: Global, model: &Accepted, image: &Image) -> Result<Vec<Run>, NoMemory>
+    requires { IsImage (accepted_data model.now) image.now }
+    ensures { IfOk result (λ runs. map run_data runs.items ≡ runs_of (accepted_data model.now) image.now) }
+{
+    let contexts = image.contexts.as_slice();
+    let accesses = image.accesses.as_slice();
+    let mut walker = Walker::new(alloc, model)?;
+    let mut runs = Vec::new(alloc);
+    for access in accesses {
+        let regs = contexts[access.context as usize].as_slice();
+        let run = walker.walk(regs, access.inputs.as_slice(), &image.memory);
+        runs.push(copy(alloc, run)?)?;
+    }
+    Ok(runs)
+}
+
+/// Appends whether each access meets each of its demands, none of which is on a side of an if whose
+/// sides lead to the same node. The runs are those of the image.
+pub fn push_demand_claims(
     model: &Accepted,
     requests: &Requests,
     image: &Image,
-    claims: Vec<bool>,
-) -> Result<Findings, NoMemory>
+    runs: &[Run],
+    claims: &mut Vec<bool>,
+) -> Result<(), NoMemory>
     requires image { IsImage (accepted_data model.now) image.now }
     requires matches { Matches requests.now image.now }
-    ensures claims { IfOk result (λ f. f.claims.items ≡ claims.items ++ demand_claims (accepted_data model.now) requests.now image.now) }
-    ensures pages { IfOk result (λ f. f.pages.items ≡ pages_of (runs_of (accepted_data model.now) image.now)) }
-    ensures tables { IfOk result (λ f. f.tables.items
-        ≡ tables_of (steps (accepted_data model.now)) (runs_of (accepted_data model.now) image.now)) }
+    requires list { IsList (accepted_data model.now) requests.now }
+    requires takes { TellsSides (accepted_data model.now) requests.now }
+    requires runs { map run_data runs.now ≡ runs_of (accepted_data model.now) image.now }
+    ensures { OnOk result (claims.new.items ≡ claims.old.items
+        ++ demand_claims (accepted_data model.now) requests.now image.now) }
 {
     let nodes = model.model().nodes.as_slice();
     let contexts = image.contexts.as_slice();
     let accesses = image.accesses.as_slice();
     let wishes = requests.accesses.as_slice();
-    let mut walker = Walker::new(alloc, model)?;
-    let mut findings = Findings {
-        claims,
-        pages: Vec::new(alloc),
-        tables: Vec::new(alloc),
-    };
     for (i, access) in accesses.iter().enumerate() {
-        let regs = contexts[access.context as usize].as_slice();
-        let run = walker.walk(regs, access.inputs.as_slice(), &image.memory);
-        findings.add(nodes, run, wishes[i].demands.as_slice())?;
+        let seen = Seen {
+            nodes,
+            regs: contexts[access.context as usize].as_slice(),
+            inputs: access.inputs.as_slice(),
+            run: &runs[i],
+        };
+        push_demands(&seen, wishes[i].demands.as_slice(), claims)?;
     }
-    Ok(findings)
+    Ok(())
 }

@@ -89,16 +89,33 @@ fn model(alloc: Global) -> Result<Accepted, Fail> {
     }
 }
 
-// What is found of an image of the model, where it matches the list.
-fn found(alloc: Global, list: &[u8], image: &[u8]) -> Result<Option<Judged>, Fail>
-    requires list { length list.now < 2 ^ 32 - 1 }
-    requires image { length image.now < 2 ^ 32 - 1 }
+const LIST: &[u8] = b"requests 1\ntables 16 48\ncontext c\naccess a c\nends done\naccess b c\n";
+
+const IMAGE: &[u8] = b"image 1\ntables 16 48\n";
+
+// A text of these two parts and a line `end`.
+fn text(alloc: Global, first: &[u8], last: &[u8]) -> Result<Vec<u8>, Fail>
+    ensures { IfOk result (λ t. length t.items < 2 ^ 32 - 1) }
 {
+    let mut text = Vec::from_slice(alloc, first)?;
+    text.extend_from_slice(last)?;
+    text.extend_from_slice(b"end\n")?;
+    if text.len() > 1000 {
+        return Err(Fail::from("long"));
+    }
+    Ok(text)
+}
+
+// What is found of an image with these lines, where it matches the list whose second access has
+// this demand.
+fn found(alloc: Global, demand: &[u8], lines: &[u8]) -> Result<Option<Judged>, Fail> {
     let model = model(alloc)?;
-    let Ok(list) = read_requests(alloc, &model, list) else {
+    let list = text(alloc, LIST, demand)?;
+    let Ok(list) = read_requests(alloc, &model, list.as_slice()) else {
         return Err(Fail::from("no list"));
     };
-    let Ok(image) = read_image(alloc, &model, image) else {
+    let image = text(alloc, IMAGE, lines)?;
+    let Ok(image) = read_image(alloc, &model, image.as_slice()) else {
         return Err(Fail::from("no image"));
     };
     if !matches(&model, &list, &image) {
@@ -110,76 +127,58 @@ fn found(alloc: Global, list: &[u8], image: &[u8]) -> Result<Option<Judged>, Fai
     }
 }
 
-const BOTH_DONE: &[u8] =
-    b"requests 1\ntables 0x10 0x30\ncontext c\naccess a c\nends done\naccess b c\nends done\nend\n";
-
-const ONE_FAULTS: &[u8] =
-    b"requests 1\ntables 0x10 0x30\ncontext c\naccess a c\nends done\naccess b c\nends fault 7\nend\n";
-
-const OTHER_CODE: &[u8] =
-    b"requests 1\ntables 0x10 0x30\ncontext c\naccess a c\nends done\naccess b c\nends fault 8\nend\n";
-
 #[test]
-fn an_image_whose_pages_lie_on_no_table_satisfies(rt: HostRuntime) -> Result<(), Fail> {
-    let image =
-        b"image 1\ntables 0x10 0x30\ncontext 0x10\naccess 0 0x4\naccess 0 0x14\nword 0x14 0x40\nend\n";
-    assert_eq!(rt;
-        found(rt.alloc(), BOTH_DONE, image)?,
-        Some(Judged::Satisfies)
-    );
-    Ok(())
-}
-
-#[test]
-fn a_page_on_its_own_table_breaks_the_last_claim(rt: HostRuntime) -> Result<(), Fail> {
-    let image =
-        b"image 1\ntables 0x10 0x30\ncontext 0x10\naccess 0 0x4\naccess 0 0x14\nword 0x14 0x1e\nend\n";
-    assert_eq!(rt;
-        found(rt.alloc(), BOTH_DONE, image)?,
-        Some(Judged::Breaks(6))
-    );
-    Ok(())
-}
-
-#[test]
-fn a_page_on_the_table_of_another_access_breaks_the_last_claim(
-    rt: HostRuntime,
-) -> Result<(), Fail> {
-    let image =
-        b"image 1\ntables 0x10 0x30\ncontext 0x10\naccess 0 0x4\naccess 0 0x14\nword 0x14 0x2e\nend\n";
-    assert_eq!(rt;
-        found(rt.alloc(), BOTH_DONE, image)?,
-        Some(Judged::Breaks(6))
-    );
+fn pages_lie_on_no_table(rt: HostRuntime) -> Result<(), Fail> {
+    for (lines, judged) in [
+        (
+            b"context 16\naccess 0 4\naccess 0 20\nword 20 0x40\n".as_slice(),
+            Judged::Satisfies,
+        ),
+        (
+            b"context 16\naccess 0 4\naccess 0 20\nword 20 0x1e\n",
+            Judged::Breaks(6),
+        ),
+        (
+            b"context 16\naccess 0 4\naccess 0 20\nword 20 0x2e\n",
+            Judged::Breaks(6),
+        ),
+    ] {
+        assert_eq!(rt; found(rt.alloc(), b"ends done\n", lines)?, Some(judged));
+    }
     Ok(())
 }
 
 #[test]
 fn rules_are_claims(rt: HostRuntime) -> Result<(), Fail> {
-    let alloc = rt.alloc();
-    let context = b"image 1\ntables 0x10 0x30\ncontext 0x12\naccess 0 0x4\naccess 0 0x14\nend\n";
-    assert_eq!(rt; found(alloc, BOTH_DONE, context)?, Some(Judged::Breaks(1)));
-    let access = b"image 1\ntables 0x10 0x30\ncontext 0x10\naccess 0 0x4\naccess 0 0x40\nend\n";
-    assert_eq!(rt; found(alloc, BOTH_DONE, access)?, Some(Judged::Breaks(3)));
+    let context = b"context 18\naccess 0 4\naccess 0 20\n";
+    assert_eq!(rt;
+        found(rt.alloc(), b"ends done\n", context)?,
+        Some(Judged::Breaks(1))
+    );
+    let access = b"context 16\naccess 0 4\naccess 0 64\n";
+    assert_eq!(rt;
+        found(rt.alloc(), b"ends done\n", access)?,
+        Some(Judged::Breaks(3))
+    );
     Ok(())
 }
 
 #[test]
 fn demands_are_claims(rt: HostRuntime) -> Result<(), Fail> {
-    let alloc = rt.alloc();
-    let image = b"image 1\ntables 0x10 0x30\ncontext 0x10\naccess 0 0x4\naccess 0 0x15\nend\n";
-    assert_eq!(rt; found(alloc, BOTH_DONE, image)?, Some(Judged::Breaks(5)));
-    assert_eq!(rt; found(alloc, ONE_FAULTS, image)?, Some(Judged::Satisfies));
-    assert_eq!(rt; found(alloc, OTHER_CODE, image)?, Some(Judged::Breaks(5)));
+    let image = b"context 16\naccess 0 4\naccess 0 21\n".as_slice();
+    for (demand, judged) in [
+        (b"ends done\n".as_slice(), Judged::Breaks(5)),
+        (b"ends fault 7\n", Judged::Satisfies),
+        (b"ends fault 8\n", Judged::Breaks(5)),
+    ] {
+        assert_eq!(rt; found(rt.alloc(), demand, image)?, Some(judged));
+    }
     Ok(())
 }
 
 #[test]
 fn an_image_of_another_list_does_not_match(rt: HostRuntime) -> Result<(), Fail> {
-    let alloc = rt.alloc();
-    let bounds = b"image 1\ntables 0x10 0x40\ncontext 0x10\naccess 0 0x4\naccess 0 0x14\nend\n";
-    assert_eq!(rt; found(alloc, BOTH_DONE, bounds)?, None);
-    let fewer = b"image 1\ntables 0x10 0x30\ncontext 0x10\naccess 0 0x4\nend\n";
-    assert_eq!(rt; found(alloc, BOTH_DONE, fewer)?, None);
+    let fewer = b"context 16\naccess 0 4\n";
+    assert_eq!(rt; found(rt.alloc(), b"ends done\n", fewer)?, None);
     Ok(())
 }
