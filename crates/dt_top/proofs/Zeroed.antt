@@ -1,16 +1,16 @@
 -- The image of zeros is of the model and matches the list.
-use Rattle.std.proofs.Common.{◌≡◌, ℕ, zero, suc, ◌*◌, ◌/◌, ◌^◌, ◌<◌, ◌≤◌, ◌⊎◌, inl, inr, List, [], ◌∷◌, length, map, replicate, refl, sym, ap, subst, arith, lit<}
+use Rattle.std.proofs.Common.{◌≡◌, ℕ, zero, suc, ◌^◌, ◌<◌, ◌≤◌, List, [], ◌∷◌, length, map, replicate, refl, sym, ap, subst, arith, lit<}
 use Rattle.std.specs.List.{AllByRecursion}
 use Rattle.std.proofs.Math.Nat.{pow-le-pow_right}
 use Rattle.std.proofs.lemmas.Nat.{pow_pos}
 use Rattle.std.proofs.lemmas.List.{length-replicate}
 use Rattle.std.proofs.lemmas.List.Elements.{recursion_from_All}
-use Rattle.dt_bits.specs.Memory.{IsMemory, IsWordSize}
+use Rattle.dt_bits.specs.Memory.{IsMemory}
 use Rattle.dt_model.specs.declared.model.Named.{Named}
 use Rattle.dt_model.specs.Data.{Data}
 use Rattle.dt_model.specs.Faults.{IsAccepted}
 use Rattle.dt_model.specs.Values.{FitNames}
-use Rattle.dt_model.proofs.Accepting.{accepted_word, accepted_address}
+use Rattle.dt_model.proofs.Accepting.{accepted_bytes, accepted_address}
 use Rattle.dt_image.specs.declared.image.ImageAccess.{ImageAccess}
 use Rattle.dt_image.specs.Images.{IsImage}
 use Rattle.dt_request.specs.declared.list.AccessWish.{AccessWish}
@@ -30,24 +30,10 @@ all_same P (suc n) x p = (p, all_same P n x p)
 abbrev zero_access : Data → AccessWish → ImageAccess
 zero_access d w = record { context = w.context; inputs = zeros (length d.inputs) }
 
-fit_accesses : (d : Data) (count : ℕ) (ws : List AccessWish) → AllByRecursion (IsWish count) ws
+fit_accesses : (d : Data) (count : ℕ) (ws : List AccessWish) → AllByRecursion (IsWish d count) ws
     → AllByRecursion (λ (a : ImageAccess). (a.context < count) × FitNames d.inputs a.inputs) (map (zero_access d) ws)
 fit_accesses d count [] h = tt
 fit_accesses d count (w ∷ ws) h = ((h.0.context, fit_zeros d.inputs), fit_accesses d count ws h.1)
-
--- ---- a word's bytes
-
-word_size : (w : ℕ) → (w ≡ 8) ⊎ ((w ≡ 16) ⊎ ((w ≡ 32) ⊎ (w ≡ 64))) → IsWordSize (w / 8)
-word_size w (inl e) = inl (ap (λ n. n / 8) e)
-word_size w (inr (inl e)) = inr (inl (ap (λ n. n / 8) e))
-word_size w (inr (inr (inl e))) = inr (inr (inl (ap (λ n. n / 8) e)))
-word_size w (inr (inr (inr e))) = inr (inr (inr (ap (λ n. n / 8) e)))
-
-whole_bytes : (w : ℕ) → (w ≡ 8) ⊎ ((w ≡ 16) ⊎ ((w ≡ 32) ⊎ (w ≡ 64))) → w ≡ 8 * (w / 8)
-whole_bytes w (inl e) = subst (λ n. n ≡ 8 * (n / 8)) (sym e) refl
-whole_bytes w (inr (inl e)) = subst (λ n. n ≡ 8 * (n / 8)) (sym e) refl
-whole_bytes w (inr (inr (inl e))) = subst (λ n. n ≡ 8 * (n / 8)) (sym e) refl
-whole_bytes w (inr (inr (inr e))) = subst (λ n. n ≡ 8 * (n / 8)) (sym e) refl
 
 -- ---- the image
 
@@ -55,7 +41,7 @@ pub zero_memory : (d : Data) (r : Requests) → IsAccepted d → IsList d r → 
 zero_memory d r a l =
     let top : 2 ^ d.address ≤ 2 ^ 64 = pow-le-pow_right (lit< tt) (accepted_address d a).1 in
     record {
-      bytes = word_size d.word (accepted_word d a);
+      bytes = (accepted_bytes d a).0;
       lo = l.bounds.lo_whole;
       hi = l.bounds.hi_whole;
       order = l.bounds.rising;
@@ -69,7 +55,7 @@ pub zero_is_image : (d : Data) (r : Requests) → IsAccepted d → IsList d r �
 zero_is_image d r a l =
     let count : length (zero_image d r).contexts ≡ length r.contexts = length-replicate (length r.contexts) (zeros (length d.regs)) in
     record {
-      word = whole_bytes d.word (accepted_word d a);
+      word = (accepted_bytes d a).1;
       end = l.bounds.within;
       contexts = all_same (FitNames d.regs) (length r.contexts) (zeros (length d.regs)) (fit_zeros d.regs);
       accesses = subst (λ n. AllByRecursion (λ (x : ImageAccess). (x.context < n) × FitNames d.inputs x.inputs) (map (zero_access d) r.accesses)) (sym count)

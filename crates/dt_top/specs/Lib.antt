@@ -2,7 +2,9 @@ pub mod Words
 pub mod Asked
 pub mod Zeros
 pub mod Record
+pub mod Lines
 pub mod Solved
+pub mod Replayed
 pub mod Answers
 pub mod Table
 pub mod Refusals

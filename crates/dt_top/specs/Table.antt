@@ -4,14 +4,16 @@ use Rattle.dt_edge.specs.Causes.{Rose, RoseBy}
 use Rattle.dt_edge.specs.Told.{Told, Has, IsAbsent, IsLong, after, with_pieces, AppendsPart}
 use Rattle.dt_model.specs.Data.{Data}
 use Rattle.dt_request.specs.declared.list.Requests.{Requests}
+use Rattle.dt_image.specs.declared.image.Image.{Image}
 use Rattle.dt_top.specs.Pieces.{pieces_of}
 use Rattle.dt_modeltext.specs.Reading.{IsModelText}
-use Rattle.dt_top.specs.Solved.{IsNoModel, IsRequests, IsNoRequests, IsImageText, IsRecordText}
-use Rattle.dt_top.specs.Words.{Job, form_of}
+use Rattle.dt_top.specs.Solved.{IsRefusedModel, IsRequests, IsNoRequests, IsImageText, IsRecordText}
+use Rattle.dt_top.specs.Replayed.{IsMatching, IsSatisfiedText, IsBrokenText, IsRefusedText}
+use Rattle.dt_top.specs.Words.{Task, solve, replay, Job, form_of}
 use Rattle.dt_top.specs.declared.status.Status.{Status}
 use Rattle.dt_top.specs.declared.status.Status.TheVariants as status
 
--- the most bytes of a model's or a list's file
+-- the most bytes of a file
 abbrev pub limit : ℕ
 limit = 16777216
 
@@ -47,25 +49,62 @@ OnJob words P = (job : Job) × (form_of words ≡ Some job) × P job
 abbrev pub OnModel : Seen → List (List ℕ) → (Job → Data → Type 0) → Type 0
 OnModel s words P = OnJob words (λ job. OnBytes s job.model (λ bytes. (d : Data) × IsModelText bytes d × P job d))
 
--- the list was read too, and this holds of the model and the list
-abbrev pub OnList : Seen → List (List ℕ) → (Data → Requests → Type 0) → Type 0
-OnList s words P = OnModel s words (λ job d. OnBytes s job.requests (λ bytes. (list : Requests) × IsRequests d bytes list × P d list))
+-- the list was read too, and this holds of the job, the model and the list
+abbrev pub OnList : Seen → List (List ℕ) → (Job → Data → Requests → Type 0) → Type 0
+OnList s words P = OnModel s words (λ job d. OnBytes s job.requests (λ bytes. (list : Requests) × IsRequests d bytes list × P job d list))
 
--- The table: a status comes with a text only where its row says so.
+-- ---- the rows of each command, for an accepted model and a list
+
+-- `solve` without splits tries the image of zeros
+abbrev pub SolveRow : Data → Requests → Status → List ℕ → Type 0
+SolveRow d list status.Good text = IsImageText d list text
+SolveRow d list status.Spent text = IsRecordText d list text
+SolveRow d list status.Memory text = text ≡ []
+SolveRow d list _ text = ⊥
+
+-- an image that matches the list was read from the file of this name, and this holds of it
+abbrev pub OnImage : Seen → List ℕ → Data → Requests → (Image → Type 0) → Type 0
+OnImage s name d list P = OnBytes s name (λ bytes. (i : Image) × IsMatching d list bytes i × P i)
+
+-- `replay` judges the image in the file of this name
+abbrev pub ReplayRow : Seen → List ℕ → Data → Requests → Status → List ℕ → Type 0
+ReplayRow s name d list status.Good text = OnImage s name d list (λ i. IsSatisfiedText d list i text)
+ReplayRow s name d list status.No text = OnImage s name d list (λ i. IsBrokenText d list i text)
+ReplayRow s name d list status.InputRefused text = OnBytes s name (λ bytes. IsRefusedText d list bytes text)
+ReplayRow s name d list status.ReadFault text = IsUnread s name × (text ≡ codes "read fault image\n")
+ReplayRow s name d list status.TooLong text = IsTooLong s name × (text ≡ codes "too long image\n")
+ReplayRow s name d list status.Memory text = text ≡ []
+ReplayRow s name d list _ text = ⊥
+
+abbrev pub TaskRow : Seen → Task → Data → Requests → Status → List ℕ → Type 0
+TaskRow s (solve seed) = SolveRow
+TaskRow s (replay name) = ReplayRow s name
+
+-- the model and the list were read, and the command has this row
+abbrev pub OnTask : Seen → List (List ℕ) → Status → List ℕ → Type 0
+OnTask s words status text = OnList s words (λ job d list. TaskRow s job.task d list status text)
+
+-- ---- the table
+
+-- A status comes with a text only where its row says so.
 abbrev pub Row : Seen → List (List ℕ) → Status → List ℕ → Type 0
-Row s words status.Good text = OnList s words (λ d list. IsImageText d list text)
-Row s words status.Spent text = OnList s words (λ d list. IsRecordText d list text)
+Row s words status.Good text = OnTask s words status.Good text
+Row s words status.No text = OnTask s words status.No text
+Row s words status.Spent text = OnTask s words status.Spent text
 Row s words status.Words text = (form_of words ≡ None) × (text ≡ codes "refused words\n")
 Row s words status.ModelRefused text =
-    OnJob words (λ job. OnBytes s job.model (λ bytes. IsNoModel bytes × (text ≡ codes "refused model\n")))
+    OnJob words (λ job. OnBytes s job.model (λ bytes. IsRefusedModel bytes text))
 Row s words status.RequestsRefused text =
     OnModel s words (λ job d. OnBytes s job.requests (λ bytes. IsNoRequests d bytes × (text ≡ codes "refused requests\n")))
+Row s words status.InputRefused text = OnTask s words status.InputRefused text
 Row s words status.ReadFault text =
     OnJob words (λ job. IsUnread s job.model × (text ≡ codes "read fault model\n"))
-    ⊎ OnModel s words (λ job d. IsUnread s job.requests × (text ≡ codes "read fault requests\n"))
+    ⊎ (OnModel s words (λ job d. IsUnread s job.requests × (text ≡ codes "read fault requests\n"))
+    ⊎ OnTask s words status.ReadFault text)
 Row s words status.TooLong text =
     OnJob words (λ job. IsTooLong s job.model × (text ≡ codes "too long model\n"))
-    ⊎ OnModel s words (λ job d. IsTooLong s job.requests × (text ≡ codes "too long requests\n"))
+    ⊎ (OnModel s words (λ job d. IsTooLong s job.requests × (text ≡ codes "too long requests\n"))
+    ⊎ OnTask s words status.TooLong text)
 Row s words status.Memory text = OnJob words (λ job. text ≡ [])
 Row s words _ text = ⊥
 

@@ -7,14 +7,14 @@ ghost use Rattle.dt_top.specs.Words.{form_of};
 ghost use Rattle.dt_model.specs.Data.{Data};
 ghost use Rattle.dt_request.specs.declared.list.Requests.{Requests};
 ghost use Rattle.dt_top.specs.Due.{Files, Due, IsMishap};
-ghost use Rattle.dt_top.specs.Headline.{AskedFor, IsAnswer};
+ghost use Rattle.dt_image.specs.declared.image.Image.{Image};
+ghost use Rattle.dt_top.specs.Headline.{AskedFor, IsAnswer, AskedToJudge, IsJudgement};
 ghost use Rattle.dt_top.specs.Table.{seen, limit, Row, OnJob, OnBytes, IsUnread, Writes, WritesPart};
 ghost use Rattle.dt_top.specs.declared.status.Status.{Status as Came};
 
 use crate::pieces::write_pieces;
 use crate::refusal::Refusal;
 use crate::reply::reply;
-use crate::solving::Verdict;
 use crate::status::Status;
 use dt_edge::{Shelf, Sink};
 use std::alloc::Global;
@@ -47,18 +47,26 @@ fn perform<S: Shelf, K: Sink>(
             let Ok(()) = write_pieces(sink, answer.text.as_slice()) else {
                 return Status::WriteFault;
             };
-            match answer.verdict {
-                Verdict::Good => Status::Good,
-                Verdict::Spent => Status::Spent,
+            answer.verdict.status()
+        }
+        Err(refusal) => match refusal {
+            Refusal::Memory => Status::Memory,
+            Refusal::Words => {
+                let Ok(()) = write_pieces(sink, refusal.plain_line().as_bytes()) else {
+                    return Status::WriteFault;
+                };
+                Status::Words
             }
-        }
-        Err(Refusal::Memory) => Status::Memory,
-        Err(refusal) => {
-            let Ok(()) = write_pieces(sink, refusal.line().as_bytes()) else {
-                return Status::WriteFault;
-            };
-            refusal.status()
-        }
+            _ => {
+                let Ok(line) = refusal.line(alloc) else {
+                    return Status::Memory;
+                };
+                let Ok(()) = write_pieces(sink, line.as_slice()) else {
+                    return Status::WriteFault;
+                };
+                refusal.status()
+            }
+        },
     }
 }
 
@@ -87,6 +95,12 @@ pub fn run<S: Shelf, K: Sink>(
     ensures headline { (files : Files) (d : Data) (list : Requests) → S.told shelf.old ≡ Some files
         → ¬ Rose (S.faults shelf.old) (S.faults shelf.new)
         → AskedFor (map string_bytes words.now) files d list → IsAnswer d list result }
+
+    // The judge: for an accepted model, a list for it and an image that matches the list, where no
+    // read failed, the answer is yes exactly where the image meets the list, and else no.
+    ensures judge { (files : Files) (d : Data) (list : Requests) (i : Image)
+        → S.told shelf.old ≡ Some files → ¬ Rose (S.faults shelf.old) (S.faults shelf.new)
+        → AskedToJudge (map string_bytes words.now) files d list i → IsJudgement d list i result }
 
     // Where the shelf tells its files and no read failed, the status is exactly the one that words
     // and files have, unless no memory was found or a write failed.

@@ -1,9 +1,10 @@
 // `solve` without splits: the image of zeros, judged.
 ghost use Rattle.std.specs.Prelude.{◌≡◌, ◌^◌, ◌<◌, ℕ, List, map, length, IfOk};
 ghost use Rattle.dt_model.specs.Accepted.{accepted_data};
-ghost use Rattle.dt_request.specs.Lists.{IsList};
+ghost use Rattle.dt_request.specs.Lists.{IsList, AsksEndsAlone};
 ghost use Rattle.dt_top.specs.Answers.{IsSolved};
 
+use crate::answer::{Answer, Verdict};
 use crate::record::zero_record;
 use crate::zeros::zero_image;
 use dt_bits::NoMemory;
@@ -13,25 +14,10 @@ use dt_request::{Requests, choice_count};
 use dt_satisfy::{Judged, judge};
 use std::alloc::Global;
 
-/// What `solve` comes to.
-#[derive(Clone, Copy, Debug, PartialEq, Eq)]
-pub enum Verdict {
-    /// The image of zeros meets the list.
-    Good,
-    /// It doesn't.
-    Spent,
-}
-
-/// An answer and its text.
-#[derive(Debug, Drop)]
-pub struct Answer {
-    pub verdict: Verdict,
-    pub text: Vec<u8>,
-}
-
 /// The answer to a list: the image of zeros where it meets the list, else the record that it was tried.
 pub fn solve(alloc: Global, model: &Accepted, list: &Requests) -> Result<Answer, NoMemory>
-    requires { IsList (accepted_data model.now) list.now }
+    requires list { IsList (accepted_data model.now) list.now }
+    requires ends { AsksEndsAlone list.now }
     ensures { IfOk result (λ answer.
         IsSolved (accepted_data model.now) list.now answer.verdict answer.text.items) }
 {

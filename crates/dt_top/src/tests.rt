@@ -18,8 +18,9 @@ const FIRST_LIST: &str =
 const T1: &str =
     "model 1\nword 64\naddress 16\nreg base 16\ninput x 8\nvar w 64\nlegal context (eq (slice 2 0 base) 3:0x0)\nnode s read w (add base (concat 5:0x0 (concat x 3:0x0))) 12 t u\nnode t if (slice 0 0 w) d f\nnode u fault 5\nnode f fault 13\nnode d done (concat (slice 15 12 w) (concat 4:0x0 x)) 12\nend\n";
 
-const T1_NOT: &str =
-    "model 1\nword 64\naddress 16\nreg base 16\ninput x 8\nvar w 64\nlegal context (not (slice 0 0 base))\nnode s fault 5\nend\n";
+// The third node goes back to the second.
+const BACK: &str =
+    "model 1\nword 64\naddress 16\ninput x 1\nnode a if x b c\nnode b fault 1\nnode c if x b d\nnode d done 16:0x0 12\nend\n";
 
 const EMPTY: &str = "requests 1\ntables 0x1000 0x2000\nend\n";
 
@@ -56,7 +57,7 @@ fn shelf(alloc: Global, failing: &[u32]) -> Result<MemoryShelf, dt_bits::NoMemor
         ("first", FIRST),
         ("first_list", FIRST_LIST),
         ("t1", T1),
-        ("t1_not", T1_NOT),
+        ("back", BACK),
         ("empty", EMPTY),
         ("outside", OUTSIDE),
         ("result", RESULT),
@@ -142,10 +143,21 @@ fn answered() -> [Case; 7] {
     ]
 }
 
-fn refused() -> [Case; 9] {
+fn refused() -> [Case; 10] {
     let done = plain("t1", "empty", Status::Good, "");
     [
-        plain("t1_not", "empty", Status::ModelRefused, "refused model\n"),
+        plain(
+            "back",
+            "empty",
+            Status::ModelRefused,
+            "refused model line 7 back-edge\n",
+        ),
+        plain(
+            "empty",
+            "empty",
+            Status::ModelRefused,
+            "refused model line 1 form\n",
+        ),
         plain("t1", "bits", Status::RequestsRefused, "refused requests\n"),
         plain("none", "empty", Status::ReadFault, "read fault model\n"),
         plain("t1", "none", Status::ReadFault, "read fault requests\n"),
@@ -217,6 +229,84 @@ fn nothing_fails_over_memory(rt: HostRuntime) -> Result<(), Fail> {
         sink.written(),
         "image 1\ntables 0x1000 0x2000\nend\n".as_bytes()
     );
+    Ok(())
+}
+
+// An image in which the list's access ends with a result above the table.
+const MET: &str =
+    "image 1\ntables 0x1000 0x2000\ncontext 0x1000\naccess 0 0x2\nword 0x1010 0x3001\nend\n";
+
+// The result's page is the table's.
+const BROKEN: &str =
+    "image 1\ntables 0x1000 0x2000\ncontext 0x1000\naccess 0 0x2\nword 0x1010 0x1001\nend\n";
+
+const TWICE: &str =
+    "image 1\ntables 0x1000 0x2000\ncontext 0x1000\naccess 0 0x2\nword 0x1010 0x3001\nword 0x1010 0x3001\nend\n";
+
+// One access more than the list has.
+const MORE: &str =
+    "image 1\ntables 0x1000 0x2000\ncontext 0x1000\naccess 0 0x2\naccess 0 0x2\nword 0x1010 0x3001\nend\n";
+
+fn images(alloc: Global, failing: &[u32]) -> Result<MemoryShelf, dt_bits::NoMemory> {
+    let mut shelf = MemoryShelf::new(alloc, failing)?;
+    shelf.put("t1", T1.as_bytes())?;
+    shelf.put("result", RESULT.as_bytes())?;
+    shelf.put("met", MET.as_bytes())?;
+    shelf.put("broken", BROKEN.as_bytes())?;
+    shelf.put("twice", TWICE.as_bytes())?;
+    shelf.put("more", MORE.as_bytes())?;
+    Ok(shelf)
+}
+
+// What comes of `replay` of an image, over a shelf whose calls at these positions fail.
+#[derive(Clone, Copy)]
+struct Replay {
+    image: &'static str,
+    unread: &'static [u32],
+    status: Status,
+    text: &'static str,
+}
+
+fn replayed(image: &'static str, status: Status, text: &'static str) -> Replay {
+    Replay {
+        image,
+        unread: &[],
+        status,
+        text,
+    }
+}
+
+fn judged() -> [Replay; 5] {
+    let met = replayed("met", Status::Good, "satisfies\n");
+    [
+        met,
+        replayed("broken", Status::No, "breaks 3\n"),
+        replayed(
+            "twice",
+            Status::InputRefused,
+            "refused image line 6 order\n",
+        ),
+        replayed("more", Status::InputRefused, "refused image shape\n"),
+        Replay {
+            unread: &[2],
+            status: Status::ReadFault,
+            text: "read fault image\n",
+            ..met
+        },
+    ]
+}
+
+#[test]
+fn each_image(rt: HostRuntime) -> Result<(), Fail> {
+    let alloc = rt.alloc();
+    for case in judged() {
+        let words = owned(alloc, &["replay", "t1", "result", case.image])?;
+        let mut shelf = images(alloc, case.unread)?;
+        let mut sink = MemorySink::new(alloc, 200, &[])?;
+        let came = run(alloc, words.as_slice(), &mut shelf, &mut sink);
+        assert_eq!(rt; came, case.status);
+        assert_eq!(rt; sink.written(), case.text.as_bytes());
+    }
     Ok(())
 }
 

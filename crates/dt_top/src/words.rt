@@ -3,16 +3,25 @@ ghost use Rattle.std.specs.Prelude.{◌≡◌, map};
 ghost use Rattle.std.specs.Option.{option_map};
 ghost use Rattle.std.specs.String.{string_bytes};
 ghost use Rattle.dt_top.specs.Asked.{asked};
-ghost use Rattle.dt_top.specs.Words.{word_number, is_file_name, form_of};
+ghost use Rattle.dt_top.specs.Words.{word_number, is_file_name, solve_form, replay_form, form_of};
 
 use dt_lex::number;
 
-/// `solve` of two files, without splits.
+/// What is asked of a model and a list.
+#[derive(Clone, Copy)]
+pub enum Task<'a> {
+    /// `solve` without splits.
+    Solve { seed: u64 },
+    /// `replay` of the image in this file.
+    Replay { image: &'a str },
+}
+
+/// A command over the files of a model and a list.
 #[derive(Clone, Copy)]
 pub struct Job<'a> {
     pub model: &'a str,
     pub requests: &'a str,
-    pub seed: u64,
+    pub task: Task<'a>,
 }
 
 fn word_number(word: &str) -> Option<u64>
@@ -33,27 +42,60 @@ fn is_file_name(word: &str) -> bool
     }
 }
 
-/// The job that the words ask for, where they have its form. It takes no memory.
-pub fn form(words: &[String]) -> Option<Job<'_>>
-    ensures { option_map asked result ≡ form_of (map string_bytes words.now) }
+fn solve_form<'a>(model: &'a str, requests: &'a str, splits: &str, seed: &str) -> Option<Job<'a>>
+    ensures { option_map asked result ≡ solve_form model.now requests.now splits.now seed.now }
 {
-    let [command, model, requests, splits, seed] = words else {
-        return None;
-    };
-    let model = model.as_str();
-    let requests = requests.as_str();
-    if command.as_str() != "solve" || !is_file_name(model) || !is_file_name(requests) {
+    if !is_file_name(model) || !is_file_name(requests) {
         return None;
     }
-    if number(splits.as_str().as_bytes()) != Some(0) {
+    if number(splits.as_bytes()) != Some(0) {
         return None;
     }
-    match word_number(seed.as_str()) {
+    match word_number(seed) {
         Some(seed) => Some(Job {
             model,
             requests,
-            seed,
+            task: Task::Solve { seed },
         }),
         None => None,
+    }
+}
+
+fn replay_form<'a>(model: &'a str, requests: &'a str, image: &'a str) -> Option<Job<'a>>
+    ensures { option_map asked result ≡ replay_form model.now requests.now image.now }
+{
+    if !is_file_name(model) || !is_file_name(requests) || !is_file_name(image) {
+        return None;
+    }
+    Some(Job {
+        model,
+        requests,
+        task: Task::Replay { image },
+    })
+}
+
+/// The job that the words ask for, where they have the form of one. It takes no memory.
+pub fn form(words: &[String]) -> Option<Job<'_>>
+    ensures { option_map asked result ≡ form_of (map string_bytes words.now) }
+{
+    match words {
+        [command, model, requests, splits, seed] => {
+            if command.as_str() != "solve" {
+                return None;
+            }
+            solve_form(
+                model.as_str(),
+                requests.as_str(),
+                splits.as_str(),
+                seed.as_str(),
+            )
+        }
+        [command, model, requests, image] => {
+            if command.as_str() != "replay" {
+                return None;
+            }
+            replay_form(model.as_str(), requests.as_str(), image.as_str())
+        }
+        _ => None,
     }
 }
