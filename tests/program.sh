@@ -22,7 +22,9 @@ cd "$work" || exit 70
 cp "$top"/examples/first/model first_model
 cp "$top"/examples/first/requests first_requests
 cp "$top"/examples/t1/model t1
-for list in empty outside result; do cp "$top/examples/t1/$list" "$list"; done
+for list in empty outside result image; do cp "$top/examples/t1/$list" "$list"; done
+for file in model outside mapped image; do cp "$top/examples/two_level/$file" "two_level_$file"; done
+sed 's/^ends done/ends fault 1/' result >fault_1
 passed=0
 failed=0
 
@@ -77,12 +79,54 @@ row 'a seed with a sign' 3 'refused words\n' solve t1 empty 0 -1
 row 'a shipped model' 3 'refused words\n' solve @sv39 empty 0 1
 row 'an empty name' 3 'refused words\n' solve '' empty 0 1
 
-sed 's/(eq (slice/(not (slice/' t1 >t1_not
-row 'an operator that is not read yet' 4 'refused model\n' solve t1_not empty 0 1
 sed 's/^end$/bits in x 0xff 0x2\nend/' result >bits
 row 'a demand that is not read yet' 5 'refused requests\n' solve t1 bits 0 1
-row 'a list in place of a model' 4 'refused model\n' solve empty empty 0 1
+row 'a list in place of a model' 4 'refused model line 1 form\n' solve empty empty 0 1
 row 'a model in place of a list' 5 'refused requests\n' solve t1 t1 0 1
+row 'the tutorial, solved' 0 "image 1\ntables 0x1000 0x3000\ncontext 0x0\naccess 0 0x0\nend\n" \
+    solve two_level_model two_level_outside 0 1
+
+# model NAME STATUS OUTPUT: what `solve` says of the model on standard input, with a list without accesses.
+model() {
+    cat >some_model
+    row "$1" "$2" "$3" solve some_model empty 0 1
+}
+good="image 1\n${tables}end\n"
+head='model 1\nword 64\naddress 16\n'
+
+# Each of the ten refusals of a model, at its line.
+sed 's/^input x 8/input base 8/' t1 | model 'a name twice' 4 'refused model line 5 name-twice\n'
+printf "${head}node a fault 1\nnode a fault 2\nend\n" | model 'two nodes of one name' 4 'refused model line 5 name-twice\n'
+sed 's/2 0 base/2 0 x/' t1 | model 'a context rule names an input' 4 'refused model line 7 unknown-name\n'
+sed 's/concat x/concat y/' t1 | model 'an unknown name' 4 'refused model line 8 unknown-name\n'
+sed 's/3:0x0)$/4:0x0)/' t1 | model 'two widths' 4 'refused model line 7 width-mismatch\n'
+sed 's/^var w 64/var w 129/' t1 | model 'a width of 129' 4 'refused model line 6 width-range\n'
+sed 's/^address 16/address 65/' t1 | model 'an address of 65 bits' 4 'refused model line 1 width-range\n'
+printf "${head}input x 1\nnode a if x b c\nnode b fault 1\nnode c if x b d\nnode d done 16:0x0 12\nend\n" |
+    model 'an edge back' 4 'refused model line 7 back-edge\n'
+printf "${head}input x 1\nnode a if x a d\nnode d done 16:0x0 12\nend\n" |
+    model 'an edge to the node itself' 4 'refused model line 5 back-edge\n'
+printf "${head}input x 1\nvar p 16\nnode a if x b c\nnode b let p 16:0x100 c\nnode c done p 12\nend\n" |
+    model 'a variable that one path leaves' 4 'refused model line 8 unassigned\n'
+printf "${head}var p 16\nnode a let p 16:0x100 b\nnode b let p 16:0x200 c\nnode c done p 12\nend\n" |
+    model 'a variable assigned twice' 4 'refused model line 6 assigned-twice\n'
+printf "${head}end\n" | model 'no node' 4 'refused model line 1 no-node\n'
+sed 's/ d f$/ d g/' t1 | model 'an edge to no node' 4 'refused model line 9 no-node\n'
+{ printf "$head"; for i in 1 2 3 4 5 6 7 8; do printf "reg a$i 1\nreg b$i 1\nreg c$i 1\nreg d$i 1\n"; done
+    printf 'reg e 1\nnode a fault 1\nend\n'; } | model '33 registers' 4 'refused model line 36 too-many\n'
+# nots COUNT: a context rule of so many `not`.
+nots() {
+    printf 'legal context '
+    awk -v n="$1" 'BEGIN { for (i = 0; i < n; i++) printf "(not "; printf "1:0x1"; for (i = 0; i < n; i++) printf ")"; printf "\n" }'
+}
+{ printf "$head"; nots 33; printf 'node a fault 1\nend\n'; } | model '33 nested operators' 4 'refused model line 4 too-deep\n'
+{ printf "$head"; nots 32; printf 'node a fault 1\nend\n'; } | model '32 nested operators' 0 "$good"
+{ printf "$head"; nots 33 | sed 's/)$//'; printf 'node a fault 1\nend\n'; } |
+    model 'too deep is looked for before form' 4 'refused model line 4 too-deep\n'
+printf "${head}var p 16\nnode a fault 1\nnode b done p 12\nend\n" >unreached
+row 'a node that no path reaches' 0 "image 1\n${tables}context\naccess 0\nend\n" solve unreached fault_1 0 1
+sed 's/(eq (slice 2 0 base) 3:0x0)/(not (ltu (sub base 16:0x1) (sext 16 (shr 3 (shl 2 (or base base))))))/' t1 |
+    model 'more operators' 0 "$good"
 
 row 'an absent model' 7 'read fault model\n' solve none empty 0 1
 row 'an absent list' 7 'read fault requests\n' solve t1 none 0 1
@@ -91,14 +135,14 @@ row 'a folder in place of a model' 7 'read fault model\n' solve folder empty 0 1
 row 'a folder in place of a list' 7 'read fault requests\n' solve t1 folder 0 1
 
 : >nothing
-row 'an empty model' 4 'refused model\n' solve nothing empty 0 1
+row 'an empty model' 4 'refused model line 1 form\n' solve nothing empty 0 1
 row 'an empty list' 5 'refused requests\n' solve t1 nothing 0 1
 sed '$d' t1 >cut
-row 'a model without its end' 4 'refused model\n' solve cut empty 0 1
+row 'a model without its end' 4 'refused model line 13 form\n' solve cut empty 0 1
 sed '$d' empty >cut
 row 'a list without its end' 5 'refused requests\n' solve t1 cut 0 1
 { cat t1; echo end; } >more
-row 'a line after the end of a model' 4 'refused model\n' solve more empty 0 1
+row 'a line after the end of a model' 4 'refused model line 14 form\n' solve more empty 0 1
 { cat empty; echo end; } >more
 row 'a line after the end of a list' 5 'refused requests\n' solve t1 more 0 1
 { cat t1; echo; echo '   '; } >blank
@@ -106,17 +150,69 @@ row 'blank lines after the end' 0 "image 1\n${tables}end\n" solve blank empty 0 
 printf 'end' | cat cut - >unended
 row 'a last line without a line feed' 0 "image 1\n${tables}end\n" solve t1 unended 0 1
 
-for byte in '\t' '\r' '#' '\177' '\200' '\0'; do
+for byte in '\t' '\r' '# \200'; do
     { printf "$byte\n"; cat t1; } >odd
-    row "the byte $byte in a model" 4 'refused model\n' solve odd empty 0 1
+    row "the bytes $byte in a model" 0 "$good" solve odd empty 0 1
+    { cat empty; printf "$byte"; } >odd
+    row "the bytes $byte in a list" 0 "$good" solve t1 odd 0 1
+done
+for byte in '\177' '\200' '\0'; do
+    { head -n 4 t1; printf "$byte\n"; } >odd
+    row "the byte $byte in a model" 4 'refused model line 5 byte\n' solve odd empty 0 1
     { cat empty; printf "$byte"; } >odd
     row "the byte $byte in a list" 5 'refused requests\n' solve t1 odd 0 1
 done
 
+# Images that came from anywhere.
+row 'an image that meets its list' 0 'satisfies\n' replay t1 result image
+sed 's/0x3001/0x1001/' image >page
+row 'a page on a table' 1 'breaks 3\n' replay t1 result page
+sed 's/0x3001/0x3000/' image >unset
+row 'a broken demand' 1 'breaks 2\n' replay t1 result unset
+sed 's/context 0x1000/context 0x1004/' image >odd
+row 'a broken context rule' 1 'breaks 1\n' replay t1 result odd
+sed 5p image >twice
+row 'an address twice' 6 'refused image line 6 order\n' replay t1 result twice
+sed '$d' image >cut
+row 'an image without its end' 6 'refused image line 6 form\n' replay t1 result cut
+sed 's/0 0x2$/0 0x100/' image >odd
+row 'a value that is too wide' 6 'refused image line 4 out-of-range\n' replay t1 result odd
+sed 's/0 0x2$/0 0x2 0x0/' image >odd
+row 'a value too many' 6 'refused image line 4 shape\n' replay t1 result odd
+sed 's/^access 0/access 1/' image >odd
+row 'no such context' 6 'refused image line 4 shape\n' replay t1 result odd
+sed 4p image >odd
+row 'an access too many' 6 'refused image shape\n' replay t1 result odd
+sed 's/0x2000$/0x3000/' image >odd
+row 'other table bounds' 6 'refused image shape\n' replay t1 result odd
+sed 's/^word 0x1010/word 0x2000/' image >odd
+row 'an address at the upper bound' 6 'refused image line 5 out-of-range\n' replay t1 result odd
+sed 's/^word 0x1010/word 0x1011/' image >odd
+row 'an address within a word' 6 'refused image line 5 out-of-range\n' replay t1 result odd
+with_line image 4 16385 >odd
+row 'a line of 16385 bytes in an image' 6 'refused image line 4 long\n' replay t1 result odd
+{ printf '\200\n'; cat image; } >odd
+row 'a bad byte in an image' 6 'refused image line 1 byte\n' replay t1 result odd
+sed '2s/$/\n# x/' result >comment
+row 'a list with a comment' 0 'satisfies\n' replay t1 comment image
+row 'a list with a comment and a page on a table' 1 'breaks 3\n' replay t1 comment page
+row 'a list with a comment and an address twice' 6 'refused image line 6 order\n' replay t1 comment twice
+row 'the tutorial, judged' 0 'satisfies\n' replay two_level_model two_level_mapped two_level_image
+sed 's/0x80000001/0x80000000/' two_level_image >odd
+row 'the tutorial with an entry that is not valid' 1 'breaks 2\n' replay two_level_model two_level_mapped odd
+sed 's/0x80000001/0x1001/' two_level_image >odd
+row 'the tutorial with a page on a table' 1 'breaks 3\n' replay two_level_model two_level_mapped odd
+row 'an absent image' 7 'read fault image\n' replay t1 result none
+row 'a folder in place of an image' 7 'read fault image\n' replay t1 result folder
+row 'the list is read before the image' 5 'refused requests\n' replay t1 t1 none
+row 'the model is read before the list' 4 'refused model line 1 form\n' replay empty none none
+row 'replay with too few words' 3 'refused words\n' replay t1 result
+row 'replay with too many words' 3 'refused words\n' replay t1 result image 1
+
 with_line t1 4 16384 >wide
 row 'a line of 16384 bytes in a model' 0 "image 1\n${tables}end\n" solve wide empty 0 1
 with_line t1 4 16385 >wide
-row 'a line of 16385 bytes in a model' 4 'refused model\n' solve wide empty 0 1
+row 'a line of 16385 bytes in a model' 4 'refused model line 4 long\n' solve wide empty 0 1
 with_line empty 2 16384 >wide
 row 'a line of 16384 bytes in a list' 0 "image 1\n${tables}end\n" solve t1 wide 0 1
 with_line empty 2 16385 >wide
@@ -126,7 +222,7 @@ most=0xffffffffffffffffffffffffffffffff
 sed "s/(eq .*/(eq 128:$most 128:$most)/" t1 >constant
 row 'a constant of 2^128 - 1' 0 "image 1\n${tables}end\n" solve constant empty 0 1
 sed "s/(eq .*/(eq 128:0x100000000000000000000000000000000 128:$most)/" t1 >constant
-row 'a constant of 2^128' 4 'refused model\n' solve constant empty 0 1
+row 'a constant of 2^128' 4 'refused model line 7 form\n' solve constant empty 0 1
 row 'a seed of 2^128 - 1' 3 'refused words\n' solve t1 empty 0 $most
 
 limit=16777216
@@ -138,15 +234,19 @@ padded empty $limit >large
 row 'a list of 16777216 bytes' 0 "image 1\n${tables}end\n" solve t1 large 0 1
 padded empty $((limit + 1)) >large
 row 'a list of 16777217 bytes' 9 'too long requests\n' solve t1 large 0 1
+padded image $limit >large
+row 'an image of 16777216 bytes' 0 'satisfies\n' replay t1 result large
+padded image $((limit + 1)) >large
+row 'an image of 16777217 bytes' 9 'too long image\n' replay t1 result large
 head -c $limit /dev/zero | tr '\0' 'x' >large
-row 'a model of one long line' 4 'refused model\n' solve large empty 0 1
+row 'a model of one long line' 4 'refused model line 1 long\n' solve large empty 0 1
 awk 'BEGIN { for (i = 0; i < 798000; i++) printf "node n%06d fault 1\n", i }' >large
-row 'a model of very many nodes' 4 'refused model\n' solve large empty 0 1
+row 'a model of very many nodes before its head' 4 'refused model line 1 form\n' solve large empty 0 1
 {
-    head -n 10 t1
+    head -n 12 t1
     awk 'BEGIN { for (i = 0; i < 600000; i++) printf "node n%06d fault 1\n", i; print "end" }'
 } >large
-row 'a model of very many nodes after its names' 4 'refused model\n' solve large empty 0 1
+row 'a model of very many nodes' 4 'refused model line 1032 too-many\n' solve large empty 0 1
 
 # An output that fails: status 8, and nothing on it.
 "$program" solve t1 empty 0 1 >&- 2>errors
