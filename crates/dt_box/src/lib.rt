@@ -12,9 +12,9 @@
 //!
 //! A cell takes what its domain takes. Only `root` and `copy` take memory. A step costs one call of
 //! the domain's `forward` or `backward` and one of `meet`; `unsettled` goes at most once over all
-//! steps. `dt_box_bench` measured, on a busy machine of four processors and over known bits, whose
-//! cells take 48 bytes: 4,000,000 terms of 80 bytes built in 0.4 seconds, their root cells made in
-//! 0.3, a copy in 0.3, a step forward in 40 nanoseconds, and all of it in 750 megabytes.
+//! steps. `dt_box_bench` measures them: over pairs, whose cells take 96 bytes, 4,000,000 terms of 80
+//! bytes were built in 0.2 seconds, their root cells made in 0.3, and a step forward took 83
+//! nanoseconds.
 //!
 //! Only tested: that `root` and `copy` succeed where there is memory.
 #![tactic(auto)]
