@@ -11,7 +11,7 @@ use std::process::ExitCode;
 use std::rt::Env;
 use std::{env, io};
 
-// No memory was found for the words.
+// Memory ran out for the words.
 const NO_MEMORY: u8 = 11;
 
 // The system doesn't give the words as text.

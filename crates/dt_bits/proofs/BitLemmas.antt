@@ -3,7 +3,7 @@ use Rattle.std.proofs.Common.{◌≡◌, ℕ, zero, suc, ◌+◌, ◌-◌, ◌*�
 use Rattle.std.specs.Int.{bit_at, w128, trailing_zeros}
 use Rattle.std.proofs.lemmas.Bool.{cases_lt, cases_eq, cases_Bool, cond-true, cond-false, eq-eqb, ne_eqb, eqb-true, eqb-false, le-leb, lt-leb, lt-ltb, le-ltb, true_from_ne_false}
 use Rattle.std.proofs.lemmas.Bool.Decides.{nat_tests}
-use Rattle.std.proofs.lemmas.Nat.{pow_pos, pow_below, shr-shr, and-not}
+use Rattle.std.proofs.lemmas.Nat.{pow_pos, pow_below, shr-shr, and-not, shr_below}
 use Rattle.std.proofs.lemmas.Nat.Bits.{bit_at_and, bit_at_or, bit_at_xor, bit_at-lt, same_from_bits_below, bit_at_above, bit_at_ones, bit_at_cat_low, bit_at_cat_high, bit_at-zero, bit_at_lowest, and_pow, bit_at-pow_same, bit_at-pow_other, bit_at-trailing_zeros}
 use Rattle.std.proofs.Math.Nat.{pow-suc, mod-eq_of_lt}
 use Rattle.dt_bits.specs.Bits.{bit, number_of, differs, some_below}
@@ -228,3 +228,40 @@ pub lowest_of_pow : (k : ℕ) → k < 128 → trailing_zeros w128 (2 ^ k) ≡ k
 lowest_of_pow k l =
     let t = bit_at-trailing_zeros w128 (2 ^ k) (pow_pos k) (pow_below k 128 l) in
     eqb-true (trailing_zeros w128 (2 ^ k)) k (sym (bit_of_pow k (trailing_zeros w128 (2 ^ k))) ∙ bit_is (2 ^ k) (trailing_zeros w128 (2 ^ k)) 1 t.1)
+
+pub differs_false : (p q : Bool) → differs p q ≡ false → p ≡ q
+differs_false p q e = grind arith
+
+pub differs_turn : (p q : Bool) → differs p q ≡ differs q p
+differs_turn p q = grind arith
+
+pub bit_of_choice : (v : Bool) (i j : ℕ) → bit (cond v (2 ^ i) 0) j ≡ (v && eqb j i)
+bit_of_choice true i j = bit_of_pow i j
+bit_of_choice false i j = bit_of_zero j
+
+pub bit_of_odd : (q k : ℕ) → bit (q * 2 ^ 1 + 1) k ≡ cond (ltb k 1) (bit 1 k) (bit q (k - 1))
+bit_of_odd q k = bit_of_joined q 1 1 k (omega arith)
+
+pub same_bit : (x y i : ℕ) → x / 2 ^ i ≡ y / 2 ^ i → bit x i ≡ bit y i
+same_bit x y i e = from_at x y i i (ap (λ n. n % 2) e)
+
+-- numbers that differ in no bit are equal
+pub equal_from_xor : (w x y : ℕ) → x < 2 ^ w → y < 2 ^ w → bit_xor x y ≡ 0 → x ≡ y
+equal_from_xor w x y h k e = same_bits w x y h k (λ i l. differs_false (bit x i) (bit y i) (sym (bit_of_xor x y i) ∙ ap (λ n. bit n i) e ∙ bit_of_zero i))
+
+-- the bits from i on are the bits above i and bit i
+pub upper_bits : (x i : ℕ) → x / 2 ^ i ≡ x / 2 ^ (i + 1) * 2 + cond (bit x i) 1 0
+upper_bits x i =
+    let h = x / 2 ^ i in
+    let e : h % 2 ≡ cond (bit x i) 1 0 = at_bit x i in
+    let s : h / 2 ^ 1 ≡ x / 2 ^ (i + 1) = shr-shr x i 1 in
+    let t : h / 2 ≡ x / 2 ^ (i + 1) = s in
+    omega (arith, e, t)
+
+-- shifted right
+pub shr_turned : (j k x : ℕ) → x < 2 ^ (j + k) → (2 ^ (j + k) - 1 - x) / 2 ^ k ≡ 2 ^ j - 1 - x / 2 ^ k
+shr_turned j k x h =
+    let q : x / 2 ^ k < 2 ^ j = shr_below x j k h in
+    let l : 2 ^ (j + k) - 1 - x < 2 ^ (j + k) = omega (arith, pow_pos (j + k)) in
+    same_bits j ((2 ^ (j + k) - 1 - x) / 2 ^ k) (2 ^ j - 1 - x / 2 ^ k) (shr_below (2 ^ (j + k) - 1 - x) j k l) (omega (arith, pow_pos j))
+    (λ i s. bit_of_shr (2 ^ (j + k) - 1 - x) k i ∙ bit_of_complement (j + k) x (k + i) h (omega arith) ∙ ap not (sym (bit_of_shr x k i)) ∙ sym (bit_of_complement j (x / 2 ^ k) i q s))

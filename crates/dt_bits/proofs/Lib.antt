@@ -2,4 +2,4 @@ pub mod Listed
 pub mod BitLemmas
 pub mod Sums
 pub mod Below
-pub mod Moduli
+pub mod Operators

@@ -1,6 +1,7 @@
 -- The bits of a sum: each is the two bits and the carry into it.
 use Rattle.std.proofs.Common.{◌≡◌, ℕ, zero, suc, ◌+◌, ◌*◌, ◌/◌, ◌%◌, Bool, true, false, cond, eqb, refl, sym, ap, ◌∙◌, arith}
 use Rattle.std.proofs.lemmas.Nat.Bits.{bit_at_lowest, bit_at-suc}
+use Rattle.dt_lemmas.proofs.Booleans.{from_cond}
 use Rattle.dt_bits.specs.Bits.{bit, differs, majority, carry_at}
 use Rattle.dt_bits.proofs.BitLemmas.{at_bit, from_at, bit_is}
 
@@ -40,10 +41,6 @@ carry_half c x y (suc i) =
     ap (λ b. majority b (bit y (suc i)) (carry_at c x y (suc i))) (bit_suc x i)
     ∙ ap (λ b. majority (bit (x / 2) i) b (carry_at c x y (suc i))) (bit_suc y i)
     ∙ ap (majority (bit (x / 2) i) (bit (y / 2) i)) (carry_half c x y i)
-
-from_cond : (n : ℕ) (b : Bool) → n ≡ cond b 1 0 → eqb n 1 ≡ b
-from_cond n true e = ap (λ m. eqb m 1) e
-from_cond n false e = ap (λ m. eqb m 1) e
 
 -- each bit of a sum
 pub bit_of_sum : (c : Bool) (x y i : ℕ) → bit (x + y + cond c 1 0) i ≡ differs (differs (bit x i) (bit y i)) (carry_at c x y i)

@@ -1,5 +1,5 @@
 -- The table of operators: how many operands, where they fit, the result's width, and its value.
-use Rattle.std.specs.Prelude.{ℕ, ◌+◌, ◌-◌, ◌*◌, ◌/◌, ◌%◌, ◌^◌, Bool, true, ◌==◌, ◌&&◌, nat_lt, nat_le, if◌then◌else◌, Option, Some, None, bit_and, bit_or, bit_xor}
+use Rattle.std.specs.Prelude.{ℕ, ◌+◌, ◌-◌, ◌*◌, ◌/◌, ◌%◌, ◌^◌, Bool, true, ◌==◌, ◌&&◌, ◌||◌, nat_lt, nat_le, if◌then◌else◌, Option, Some, None, bit_and, bit_or, bit_xor}
 use Rattle.dt_bits.specs.Bits.{IsValue, width}
 use Rattle.dt_bits.specs.declared.value.Width.{Width}
 use Rattle.dt_bits.specs.declared.value.Bv.{Bv}
@@ -23,6 +23,11 @@ arity_of (Shr by) = 1
 arity_of Eq = 2
 arity_of Ltu = 2
 arity_of Ite = 3
+
+-- some operand that the operator has passes a test, where a, b and c say which of the three do
+abbrev pub some_used : Op → Bool → Bool → Bool → Bool
+some_used op a b c =
+    nat_lt 0 (arity_of op) && a || (nat_lt 1 (arity_of op) && b || nat_lt 2 (arity_of op) && c)
 
 -- where the operator fits operands of these widths; one that it doesn't have is ignored
 abbrev pub fits_at : Op → ℕ → ℕ → ℕ → Bool

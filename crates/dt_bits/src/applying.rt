@@ -1,5 +1,5 @@
 ghost use Rattle.std.specs.Prelude.{◌≡◌, ◌+◌, ◌-◌, ◌*◌, ◌/◌, ◌%◌, ◌^◌, ◌<◌, ◌≤◌, ◌==◌, bit_and, bit_or, bit_xor, nat_le, nat_lt, if◌then◌else◌, IsTrue};
-ghost use Rattle.dt_bits.specs.Bits.{IsWidth, IsValue};
+ghost use Rattle.dt_bits.specs.Bits.{IsWidth, IsValue, width};
 ghost use Rattle.dt_bits.specs.Ops.{IsOp, applied, fits_at};
 
 use crate::{Bv, Op, Width, ones};
@@ -67,32 +67,44 @@ fn differing(width: u32, a: u128, b: u128) -> u128
     a ^ b
 }
 
-// The first number above the second.
-fn joined(a_width: u32, a: u128, b_width: u32, b: u128) -> u128
-    requires a_width { IsWidth a_width }
-    requires b_width { IsWidth b_width }
-    requires whole { a_width + b_width ≤ 128 }
-    requires a { a < 2 ^ a_width }
-    requires b { b < 2 ^ b_width }
-    ensures value { result ≡ a * 2 ^ b_width + b }
-    ensures range { result < 2 ^ (a_width + b_width) }
+/// The first value above the second; both together have at most 128 bits.
+#[inline(always)]
+pub fn joined(high: Bv, low: Bv) -> Bv
+    requires high { IsValue high }
+    requires low { IsValue low }
+    requires whole { high.width.0 + low.width.0 ≤ 128 }
+    ensures value { result ≡ record { width = width (high.width.0 + low.width.0); bits = high.bits * 2 ^ low.width.0 + low.bits } }
+    ensures range { IsValue result }
 {
-    (a << b_width) | b
+    Bv {
+        width: Width(high.width.0 + low.width.0),
+        bits: (high.bits << low.width.0) | low.bits,
+    }
 }
 
-// The same number in two's complement, `to` bits wide.
-fn extended(width: u32, a: u128, to: u32) -> u128
-    requires width { IsWidth width }
-    requires to { IsWidth to }
-    requires order { width ≤ to }
-    requires a { a < 2 ^ width }
-    ensures value { result ≡ (if nat_le (2 ^ (width - 1)) a then a + (2 ^ to - 2 ^ width) else a) }
-    ensures range { result < 2 ^ to }
+/// The same number in two's complement, of a width that is no less.
+#[inline(always)]
+pub fn extended(value: Bv, to: Width) -> Bv
+    requires value { IsValue value }
+    requires to { IsWidth to.0 }
+    requires order { value.width.0 ≤ to.0 }
+    ensures value { result ≡ record {
+      width = to;
+      bits = if nat_le (2 ^ (value.width.0 - 1)) value.bits
+          then value.bits + (2 ^ to.0 - 2 ^ value.width.0) else value.bits;
+    } }
+    ensures range { IsValue result }
 {
-    if a >= 1 << (width - 1) {
-        a + (ones(Width(to)) - ones(Width(width)))
+    if value.bits >= 1 << (value.width.0 - 1) {
+        Bv {
+            width: to,
+            bits: value.bits + (ones(to) - ones(value.width)),
+        }
     } else {
-        a
+        Bv {
+            width: to,
+            bits: value.bits,
+        }
     }
 }
 
@@ -157,14 +169,8 @@ pub fn apply(op: Op, a: Bv, b: Bv, c: Bv) -> Bv
             width: Width(hi - lo + 1),
             bits: part(a.bits, hi, lo),
         },
-        Op::Concat => Bv {
-            width: Width(a.width.0 + b.width.0),
-            bits: joined(a.width.0, a.bits, b.width.0, b.bits),
-        },
-        Op::SignExt { to } => Bv {
-            width: Width(to),
-            bits: extended(a.width.0, a.bits, to),
-        },
+        Op::Concat => joined(a, b),
+        Op::SignExt { to } => extended(a, Width(to)),
         Op::Shl { by } => Bv {
             width: a.width,
             bits: shifted_left(a.width.0, a.bits, by),

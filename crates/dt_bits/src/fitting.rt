@@ -1,6 +1,6 @@
-ghost use Rattle.std.specs.Prelude.{◌≡◌, ◌<◌, IfSome};
-ghost use Rattle.dt_bits.specs.Bits.{IsWidth};
-ghost use Rattle.dt_bits.specs.Ops.{arity_of, fits_of, IsOp};
+ghost use Rattle.std.specs.Prelude.{◌≡◌, ◌<◌, true, IfSome};
+ghost use Rattle.dt_bits.specs.Bits.{IsWidth, width};
+ghost use Rattle.dt_bits.specs.Ops.{arity_of, fits_at, fits_of, width_of, some_used, IsOp};
 
 use crate::{Op, Width};
 
@@ -56,4 +56,32 @@ pub fn fits(op: Op, a: u32, b: u32, c: u32) -> Option<Width>
             None
         },
     }
+}
+
+/// The width of the result for operands of these widths, which the operator fits.
+#[inline(always)]
+pub fn result_width(op: Op, a: Width, b: Width, c: Width) -> Width
+    requires { fits_at op a.0 b.0 c.0 ≡ true }
+    ensures { result ≡ width (width_of op a.0 b.0 c.0) }
+{
+    match op {
+        Op::Const { value } => value.width,
+        Op::Not | Op::And | Op::Or | Op::Xor | Op::Add | Op::Sub => a,
+        Op::Shl { .. } | Op::Shr { .. } => a,
+        Op::Slice { hi, lo } => Width(hi - lo + 1),
+        Op::Concat => Width(a.0 + b.0),
+        Op::SignExt { to } => Width(to),
+        Op::Eq | Op::Ltu => Width(1),
+        Op::Ite => b,
+    }
+}
+
+/// Whether some operand that the operator has passes a test, where `a`, `b` and `c` say which of the
+/// three do.
+#[inline(always)]
+pub fn is_some_used(op: Op, a: bool, b: bool, c: bool) -> bool
+    ensures { result ≡ some_used op a b c }
+{
+    let count = arity(op);
+    0 < count && a || 1 < count && b || 2 < count && c
 }

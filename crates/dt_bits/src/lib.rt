@@ -3,13 +3,14 @@
 //! below two to that width; what an operator gives is a formula over whole numbers. Table memory
 //! lists the words that are not 0.
 //!
-//! Proved: `arity`, `fits` and `apply` give exactly what the table of operators says, at every
-//! width, and the result of `apply` is again a value; `fits` gives a width of 1 to 128;
+//! Proved: `arity`, `fits`, `result_width` and `apply` give exactly what the table of operators says,
+//! at every width, and the result of `apply` is again a value; `fits` gives a width of 1 to 128;
+//! `joined` and `extended` give the values of Concat and SignExt;
 //! `TableMemory::word_at` gives a word exactly at the multiples of the word's bytes within the
 //! memory, and that word is the listed one, or 0; each call of `Seq` does to its list what the
 //! call of `Vec` with its name does. Nothing here takes memory but the calls of `Seq` that say so.
 //!
-//! Only tested: that those calls of `Seq` succeed where there is memory; what `Debug` prints.
+//! Only tested: that `push` of `Seq` succeeds where there is memory.
 #![tactic(auto)]
 
 mod applying;
@@ -22,8 +23,8 @@ mod seq;
 mod tests;
 mod value;
 
-pub use applying::apply;
-pub use fitting::{arity, fits};
+pub use applying::{apply, extended, joined};
+pub use fitting::{arity, fits, is_some_used, result_width};
 pub use memory::{TableMemory, Word};
 pub use no_memory::NoMemory;
 pub use op::Op;

@@ -1,7 +1,8 @@
-pub mod Narrowing
-pub mod Holding
-pub mod Knowing
+pub mod Steps
+mod Narrowing
+pub mod Neighbours
+pub mod Assignments
+pub mod Words
 pub mod Roots
 pub mod Stillness
-pub mod Firsts
-pub mod Keeping
+pub mod Knowledge

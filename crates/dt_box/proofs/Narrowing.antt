@@ -1,130 +1,14 @@
--- What a step tells fits its target, and cells stay cells of the problem.
-use Rattle.std.proofs.Common.{◌≡◌, ◌≢◌, ℕ, zero, suc, ◌<◌, Bool, List, length, get_or, set, Some, refl, sym, ap, ◌∙◌, subst, ⊎_elim, arith, get_or-set_same, get_or-set_other, length-set}
-use Rattle.std.proofs.lemmas.Bool.{cases_eq}
-use Rattle.dt_bits.specs.Bits.{width}
-use Rattle.dt_bits.specs.Ops.{arity_of, fits_of}
-use Rattle.dt_bits.specs.declared.op.Op.{Op}
-use Rattle.dt_bits.specs.declared.value.Width.{Width}
-use Rattle.dt_domain.specs.Domain.{DomainOps, DomainLaws, Fitting, FittingAt, AreAlike, bits_of, operand}
-use Rattle.dt_terms.specs.declared.term.Term.{Term}
-use Rattle.dt_terms.specs.declared.term.Term.TheVariants.{Choice, Node}
-use Rattle.dt_terms.specs.Terms.{width_of_term, term_at, bits_at, AreTerms}
-use Rattle.dt_terms.proofs.Placed.{IsPlaced, placed, fits_parts}
-use Rattle.dt_box.specs.declared.step.Step.{Step}
-use Rattle.dt_box.specs.declared.step.Step.TheVariants.{Forward, Backward}
-use Rattle.dt_box.specs.Cells.{cell_at, AreCells}
-use Rattle.dt_box.specs.Steps.{IsNodeTerm, HasPlace, IsStep, operand_at, target, told_forward, told_backward, told, narrowed, after_step, after_bit}
+-- What a cell becomes where something may narrow it.
+use Rattle.std.proofs.Common.{Option, Some, None, MatchOption, IfSome, sym, subst}
+use Rattle.dt_domain.specs.Domain.{DomainOps, DomainLaws, AreAlike, IsNarrowed}
 
-pub operand_in : (P : ℕ → Type 0) (k a b c : ℕ) → P a → P b → P c → P (operand k a b c)
-operand_in P zero a b c p q r = p
-operand_in P (suc zero) a b c p q r = q
-operand_in P (suc (suc k)) a b c p q r = r
+module _ (D : Type 0) (ops : DomainOps D) (a b : D) where
+  -- a fact of what narrows a, or else of a, is one of the meet
+  pub of_meet : (P : D → Type 0) (o : Option D) → IsNarrowed ops a b o → MatchOption o (P a) P → P (ops.meet a b)
+  of_meet P None e p = subst P (sym e) p
+  of_meet P (Some d) e p = subst P e p
 
-module _ (D : Type 0) (ops : DomainOps D) (laws : DomainLaws ops) (terms : List Term) (right : AreTerms terms) where
-  pub operand_cell : (k a b c : ℕ) (cells : List D) → operand k (cell_at ops cells a) (cell_at ops cells b) (cell_at ops cells c) ≡ cell_at ops cells (operand k a b c)
-  operand_cell zero a b c cells = refl
-  operand_cell (suc zero) a b c cells = refl
-  operand_cell (suc (suc k)) a b c cells = refl
-
-  -- a cell has as many bits as its term
-  bits_are : (cells : List D) (t : ℕ) → AreCells ops terms cells → t < length terms → bits_of ops (cell_at ops cells t) ≡ bits_at terms t
-  bits_are cells t h l = ap (λ w. w.0) (h.widths t l)
-
-  pub cells_fit : (t : ℕ) (op : Op) (a b c : ℕ) (w : Width) (cells : List D) → AreCells ops terms cells → IsPlaced terms t op a b c w
-      → fits_of op (bits_of ops (cell_at ops cells a)) (bits_of ops (cell_at ops cells b)) (bits_of ops (cell_at ops cells c)) ≡ Some w
-  cells_fit t op a b c w cells h p = rw (bits_are cells a h p.a_in, bits_are cells b h p.b_in, bits_are cells c h p.c_in) p.fits
-
-  pub fitting : (t : ℕ) (op : Op) (a b c : ℕ) (w : Width) (cells : List D) → AreCells ops terms cells → IsPlaced terms t op a b c w
-      → Fitting ops op (cell_at ops cells a) (cell_at ops cells b) (cell_at ops cells c)
-  fitting t op a b c w cells h p = record {
-    op_is = p.op_is;
-    a_is = h.domains a p.a_in;
-    b_is = h.domains b p.b_in;
-    c_is = h.domains c p.c_in;
-    fits = (fits_parts op _ _ _ w (cells_fit t op a b c w cells h p)).0;
-  }
-
-  pub fitting_at : (t k : ℕ) (op : Op) (a b c : ℕ) (w : Width) (cells : List D) → AreCells ops terms cells → IsPlaced terms t op a b c w → k < arity_of op → t < length terms
-      → width_of_term (term_at terms t) ≡ w
-      → FittingAt ops op k (cell_at ops cells t) (cell_at ops cells a) (cell_at ops cells b) (cell_at ops cells c)
-  fitting_at t k op a b c w cells h p l m e = record {
-    operands = fitting t op a b c w cells h p;
-    place = l;
-    r_is = h.domains t m;
-    r_width = h.widths t m ∙ e ∙ sym (fits_parts op _ _ _ w (cells_fit t op a b c w cells h p)).1;
-  }
-
-  -- d may narrow the cell of term t
-  pub record Narrows (d : D) (t : ℕ) : Type 0 where
-    pub within : t < length terms
-    pub domain : ops.IsDomain d
-    pub width : ops.width d ≡ width_of_term (term_at terms t)
-
-  forward_narrows : (t : ℕ) (cells : List D) (node : Term) → term_at terms t ≡ node → IsNodeTerm node → t < length terms → AreCells ops terms cells
-      → Narrows (told_forward ops cells node) t
-  forward_narrows t cells (Choice w) e n m h = absurd n
-  forward_narrows t cells (Node op a b c w) e n m h =
-      let p = placed terms t op a b c w right m e in
-      let f = laws.forward_is op _ _ _ (fitting t op a b c w cells h p) in
-      record {
-        within = m;
-        domain = f.0;
-        width = f.1 ∙ (fits_parts op _ _ _ w (cells_fit t op a b c w cells h p)).1 ∙ sym (ap width_of_term e);
-      }
-
-  backward_narrows : (t k : ℕ) (cells : List D) (node : Term) → term_at terms t ≡ node → HasPlace node k → t < length terms → AreCells ops terms cells
-      → Narrows (told_backward ops cells k (cell_at ops cells t) node) (operand_at node k)
-  backward_narrows t k cells (Choice w) e n m h = absurd n
-  backward_narrows t k cells (Node op a b c w) e n m h =
-      let p = placed terms t op a b c w right m e in
-      let i = operand_in (λ u. u < length terms) k a b c p.a_in p.b_in p.c_in in
-      let f = laws.backward_is op k _ _ _ _ (fitting_at t k op a b c w cells h p n m (ap width_of_term e)) in
-      record {
-        within = i;
-        domain = f.0;
-        width = f.1 ∙ ap ops.width (operand_cell k a b c cells) ∙ h.widths (operand k a b c) i;
-      }
-
-  -- what the neighbours tell may narrow the target's cell
-  pub step_narrows : (s : Step) (cells : List D) → AreCells ops terms cells → IsStep terms s → Narrows (told ops terms s cells) (target terms s)
-  step_narrows (Forward t) cells h s = forward_narrows t cells (term_at terms t) refl s.1 s.0 h
-  step_narrows (Backward t k) cells h s = backward_narrows t k cells (term_at terms t) refl s.1 s.0 h
-
-  pub step_alike : (s : Step) (cells : List D) → AreCells ops terms cells → IsStep terms s
-      → AreAlike ops (cell_at ops cells (target terms s)) (told ops terms s cells)
-  step_alike s cells h i =
-      let n = step_narrows s cells h i in
-      record { a_is = h.domains (target terms s) n.within; b_is = n.domain; widths = h.widths (target terms s) n.within ∙ sym n.width }
-
-  pub narrowed_is : (s : Step) (cells : List D) → AreCells ops terms cells → IsStep terms s → ops.IsDomain (narrowed ops terms s cells)
-  narrowed_is s cells h i = (laws.meet_is _ _ (step_alike s cells h i)).0
-
-  -- a fact of each cell, where one was replaced
-  pub at_set : (cells : List D) (u t : ℕ) (m : D) (P : D → Type 0) → u < length cells → (t ≡ u → P m) → (t ≢ u → P (cell_at ops cells t))
-      → P (cell_at ops (set cells u m) t)
-  at_set cells u t m P l p q =
-      ⊎_elim
-      (λ (e : t ≡ u). subst (λ n. P (get_or (set cells u m) n (ops.full (width 1)))) (sym e) (subst P (sym (get_or-set_same cells u m (ops.full (width 1)) l)) (p e)))
-      (λ (n : t ≢ u). subst P (sym (get_or-set_other cells u t m (ops.full (width 1)) n)) (q n))
-      (cases_eq t u)
-
-  pub set_cells : (cells : List D) (u : ℕ) (m : D) → AreCells ops terms cells → u < length terms → ops.IsDomain m → ops.width m ≡ width_of_term (term_at terms u)
-      → AreCells ops terms (set cells u m)
-  set_cells cells u m h l i w = record {
-    count = length-set cells u m ∙ h.count;
-    domains = λ t n. at_set cells u t m ops.IsDomain (omega (arith, h.count)) (λ e. i) (λ _. h.domains t n);
-    widths = λ t n. at_set cells u t m (λ d. ops.width d ≡ width_of_term (term_at terms t)) (omega (arith, h.count)) (λ e. w ∙ ap (λ v. width_of_term (term_at terms v)) (sym e)) (λ _. h.widths t n);
-  }
-
-  -- a step of the problem gives cells of it
-  pub step_cells : (s : Step) (cells : List D) → AreCells ops terms cells → IsStep terms s → AreCells ops terms (after_step ops terms s cells)
-  step_cells s cells h i =
-      let n = step_narrows s cells h i in
-      let m = laws.meet_is _ _ (step_alike s cells h i) in
-      set_cells cells (target terms s) _ h n.within m.0 (m.1 ∙ h.widths (target terms s) n.within)
-
-  -- so does setting a bit
-  pub bit_cells : (t i : ℕ) (v : Bool) (cells : List D) → AreCells ops terms cells → t < length terms → i < bits_at terms t → AreCells ops terms (after_bit ops t i v cells)
-  bit_cells t i v cells h l m =
-      let b = laws.with_bit_is (cell_at ops cells t) i v (h.domains t l) (omega (arith, bits_are cells t h l)) in
-      set_cells cells t _ h l b.0 (b.1 ∙ h.widths t l)
+  -- what narrows a is a domain
+  pub some_domain : DomainLaws ops → AreAlike ops a b → (o : Option D) → IsNarrowed ops a b o → IfSome o ops.IsDomain
+  some_domain laws h None e = tt
+  some_domain laws h (Some d) e = subst ops.IsDomain (sym e) (laws.meet_is a b h).0

@@ -1,5 +1,6 @@
 pub mod Cells
 pub mod Steps
 pub mod Changes
-pub mod Settled
-pub mod Keeping
+pub mod Stillness
+pub mod Neighbours
+pub mod Assignments

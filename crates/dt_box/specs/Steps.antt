@@ -1,5 +1,7 @@
--- Steps: what the neighbours of a term tell of it.
-use Rattle.std.specs.Prelude.{ℕ, ◌<◌, Bool, List, length, slice_set}
+-- Steps: how the cells of a term's neighbours narrow its own.
+use Rattle.std.specs.Prelude.{ℕ, ◌<◌, Bool, List, length, slice_set, nat_lt, if◌then◌else◌}
+use Rattle.dt_bits.specs.Bits.{width}
+use Rattle.dt_bits.specs.declared.op.Op.{Op}
 use Rattle.dt_bits.specs.Ops.{arity_of}
 use Rattle.dt_domain.specs.Domain.{DomainOps, operand}
 use Rattle.dt_terms.specs.declared.term.Term.{Term}
@@ -34,28 +36,33 @@ abbrev pub target : List Term → Step → ℕ
 target terms (Forward term) = term
 target terms (Backward parent place) = operand_at (term_at terms parent) place
 
--- what the operands' cells tell of a node
-abbrev pub told_forward : {D : Type 0} → DomainOps D → List D → Term → D
-told_forward ops cells (Choice w) = ops.full w
-told_forward ops cells (Node op a b c w) =
-    ops.forward op (cell_at ops cells a) (cell_at ops cells b) (cell_at ops cells c)
+-- the cell of the operand at place k, which is term a; where the operator has no operand there the full
+-- domain of one bit, so that no other cell is looked at
+abbrev pub operand_cell : {D : Type 0} → DomainOps D → List D → Op → ℕ → ℕ → D
+operand_cell ops cells op k a = if nat_lt k (arity_of op) then cell_at ops cells a else ops.full (width 1)
 
--- what a node's cell, r, and its operands' cells tell of the operand at place k
-abbrev pub told_backward : {D : Type 0} → DomainOps D → List D → ℕ → D → Term → D
-told_backward ops cells k r (Choice w) = ops.full w
-told_backward ops cells k r (Node op a b c w) =
-    ops.backward op k r (cell_at ops cells a) (cell_at ops cells b) (cell_at ops cells c)
+-- what the operands' cells say of a node
+abbrev pub propagated_forward : {D : Type 0} → DomainOps D → List D → Term → D
+propagated_forward ops cells (Choice w) = ops.full w
+propagated_forward ops cells (Node op a b c w) =
+    ops.forward op (operand_cell ops cells op 0 a) (operand_cell ops cells op 1 b) (operand_cell ops cells op 2 c)
 
--- what the neighbours tell of a step's target
-abbrev pub told : {D : Type 0} → DomainOps D → List Term → Step → List D → D
-told ops terms (Forward term) cells = told_forward ops cells (term_at terms term)
-told ops terms (Backward parent place) cells =
-    told_backward ops cells place (cell_at ops cells parent) (term_at terms parent)
+-- what a node's cell, r, and its operands' cells say of the operand at place k
+abbrev pub propagated_backward : {D : Type 0} → DomainOps D → List D → ℕ → D → Term → D
+propagated_backward ops cells k r (Choice w) = ops.full w
+propagated_backward ops cells k r (Node op a b c w) =
+    ops.backward op k r (operand_cell ops cells op 0 a) (operand_cell ops cells op 1 b) (operand_cell ops cells op 2 c)
 
--- the target's cell after a step: its meet with what the neighbours tell
+-- what the neighbours' cells say of a step's target
+abbrev pub propagated : {D : Type 0} → DomainOps D → List Term → Step → List D → D
+propagated ops terms (Forward term) cells = propagated_forward ops cells (term_at terms term)
+propagated ops terms (Backward parent place) cells =
+    propagated_backward ops cells place (cell_at ops cells parent) (term_at terms parent)
+
+-- the target's cell after a step: its meet with what the neighbours' cells say
 abbrev pub narrowed : {D : Type 0} → DomainOps D → List Term → Step → List D → D
 narrowed ops terms step cells =
-    ops.meet (cell_at ops cells (target terms step)) (told ops terms step cells)
+    ops.meet (cell_at ops cells (target terms step)) (propagated ops terms step cells)
 
 -- the cells after a step: all but the target's stay
 abbrev pub after_step : {D : Type 0} → DomainOps D → List Term → Step → List D → List D

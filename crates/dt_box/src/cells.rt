@@ -1,8 +1,7 @@
-use crate::changing::change_of;
-use crate::emptying::first_empty;
-use crate::rooting::{full_cells, require_ones};
-use crate::settling::first_step;
-use crate::telling::{narrowed, target};
+use crate::change::{change_of, put};
+use crate::propagation::{narrowed, target};
+use crate::root::{full_cells, require_ones};
+use crate::sweep::{first_empty, first_step, tells};
 use crate::{Changed, Step};
 use dt_bits::NoMemory;
 use dt_domain::Domain;
@@ -40,7 +39,7 @@ impl<D: Domain> Cells<D> {
     ghost use Rattle.dt_box.specs.Cells.{AreCells, cell_at, root_cells};
     ghost use Rattle.dt_box.specs.Steps.{IsStep, target, narrowed, after_step, after_bit};
     ghost use Rattle.dt_box.specs.Changes.{IsChange};
-    ghost use Rattle.dt_box.specs.Settled.{HasNoEmpty, IsSettled, TellsNew};
+    ghost use Rattle.dt_box.specs.Stillness.{HasNoEmpty, IsSettled, tells, TellsNew};
 
     /// The cells of what is known at first: each holds every number of its term's width, and the
     /// cell of a term that must be 1 holds 1 alone.
@@ -78,8 +77,9 @@ impl<D: Domain> Cells<D> {
         self.cells[term as usize]
     }
 
-    /// Takes a step of the problem: its target's cell becomes its meet with what the neighbours
-    /// tell; all others stay. The answer tells what became of that cell. It takes no memory.
+    /// Takes a step of the problem: its target's cell becomes its meet with what the neighbours'
+    /// cells say of it; all others stay. The answer says what became of that cell. It takes no
+    /// memory.
     pub fn apply(&mut self, problem: &Problem, step: Step) -> Changed
         requires cells { AreCells D.ops problem.now.terms self.old }
         requires step { IsStep problem.now.terms step }
@@ -88,15 +88,12 @@ impl<D: Domain> Cells<D> {
         ensures are { AreCells D.ops problem.now.terms self.new }
     {
         let terms = problem.terms.as_slice();
-        let new = narrowed(terms, &self.cells, step);
-        let at = target(terms, step) as usize;
-        let old = self.cells[at];
-        self.cells[at] = new;
-        change_of(&old, &new)
+        let narrowed = narrowed(terms, &self.cells, step);
+        put(&mut self.cells[target(terms, step) as usize], narrowed)
     }
 
     /// Sets a bit of the term at a position: its cell becomes the one that holds what it held with
-    /// the bit so; all others stay. The answer tells what became of that cell. It takes no memory.
+    /// the bit so; all others stay. The answer says what became of that cell. It takes no memory.
     pub fn set_bit(&mut self, problem: &Problem, term: u32, bit: u32, value: bool) -> Changed
         requires cells { AreCells D.ops problem.now.terms self.old }
         requires term { term < length problem.now.terms }
@@ -106,10 +103,11 @@ impl<D: Domain> Cells<D> {
         ensures are { AreCells D.ops problem.now.terms self.new }
     {
         let _ = &problem.terms;
-        let old = self.cells[term as usize];
-        let new = old.with_bit(bit, value);
-        self.cells[term as usize] = new;
-        change_of(&old, &new)
+        let cell = &mut self.cells[term as usize];
+        let new = cell.with_bit(bit, value);
+        let changed = change_of(cell, &new);
+        *cell = new;
+        changed
     }
 
     /// The position of the first empty cell; None exactly where no cell is empty. It takes no
@@ -120,6 +118,16 @@ impl<D: Domain> Cells<D> {
         ensures none { IfNone result (HasNoEmpty D.ops self.now) }
     {
         first_empty(&self.cells)
+    }
+
+    /// Whether a step of the problem would empty its target's cell or make a further bit of it known.
+    /// It takes no memory.
+    pub fn tells(&self, problem: &Problem, step: Step) -> bool
+        requires cells { AreCells D.ops problem.now.terms self.now }
+        requires step { IsStep problem.now.terms step }
+        ensures { result ≡ tells D.ops problem.now.terms step self.now }
+    {
+        tells(problem.terms.as_slice(), &self.cells, step)
     }
 
     /// A step that would empty a cell or make a further bit known; None exactly where the cells are

@@ -2,23 +2,33 @@
 //! of 4,000,000 terms, its root cells over pairs of known bits and a range, and a copy of them,
 //! takes every step forward and evaluates the problem once, and prints a line for each on standard
 //! error: how many terms there were and how many milliseconds it took. Without one it does the same
-//! for a small problem and prints no figure.
+//! for a small problem and prints no figure. With two, a file and a number, it reads a trace
+//! (`src/trace.rt`), does its moves that many times, each time on root cells, and prints how many
+//! changed a cell in which way and a digest of the last cells; `tests/steps.py` compares the time
+//! and the cells with those of a C program.
 //!
 //! Proved: each call is made where its conditions hold, and the program ends.
-//! Only tested: that it runs. The figures are the machine's.
+//! Only tested: that it runs, and the cells of traces. The figures are the machine's.
 #![tactic(auto)]
 
+ghost use Rattle.std.specs.Prelude.{All};
+ghost use Rattle.dt_box_bench.specs.Moves.{IsMove};
+
+mod moves;
 mod stop;
+mod trace;
 mod work;
 
+use crate::moves::{Counts, Move, digest, replay};
 use crate::stop::Stop;
+use crate::trace::{moves_of, problem_of};
 use crate::work::{built, evaluated, swept};
 use dt_bits::Width;
 use dt_box::Cells;
 use dt_pair::Pair;
-use dt_terms::Term;
-use std::env;
+use dt_terms::{Problem, Term};
 use std::time::Instant;
+use std::{env, fs};
 
 /// How many terms the large problem has: as many as one may have.
 const LARGE: u32 = 4_000_000;
@@ -67,9 +77,52 @@ fn measure(rt: &HostRuntime, shown: bool, count: u32) -> Result<(), Stop> {
     Ok(())
 }
 
+/// Does the moves so many times, each time on root cells, and prints what came of them.
+fn repeat(rt: &HostRuntime, problem: &Problem, moves: &[Move], rounds: u32) -> Result<(), Stop>
+    requires { All (IsMove problem.now.terms) moves.now }
+{
+    let root: Cells<Pair> = Cells::root(rt.alloc(), problem)?;
+    let mut cells = root.copy(rt.alloc())?;
+    let mut counts = Counts::none();
+    for _round in 0..rounds {
+        cells = root.copy(rt.alloc())?;
+        replay(problem, moves, &mut cells, &mut counts);
+    }
+    print(rt, counts, digest(problem, &cells))
+}
+
+/// Does the moves of the trace in a file, so many times, and prints what came of them.
+fn measure_trace(rt: &HostRuntime, path: &str, rounds: u32) -> Result<(), Stop> {
+    let text = fs::read_to_string(rt, path)?;
+    let problem = problem_of(rt.alloc(), text.as_str())?;
+    let moves = moves_of(rt.alloc(), &problem, text.as_str())?;
+    repeat(rt, &problem, moves.as_slice(), rounds)
+}
+
+/// Prints how many moves changed a cell in which way, and the digest of the last cells.
+fn print(rt: &HostRuntime, counts: Counts, digest: u64) -> Result<(), Stop> {
+    let Counts {
+        no,
+        narrowed,
+        bit_known,
+        empty,
+    } = counts;
+    println!(rt; "no {no} narrowed {narrowed} known {bit_known} empty {empty} digest {digest}")?;
+    Ok(())
+}
+
 fn main(rt: HostRuntime) -> Result<(), Stop> {
-    let shown = env::args(&rt)?.count() > 1;
-    measure(&rt, shown, if shown { LARGE } else { SMALL })?;
+    let mut words = env::args(&rt)?.skip(1);
+    match words.next() {
+        None => measure(&rt, false, SMALL)?,
+        Some(path) => match words.next() {
+            None => measure(&rt, true, LARGE)?,
+            Some(rounds) => {
+                let rounds = rounds.as_str().parse::<u32>().unwrap_or(1);
+                return measure_trace(&rt, path.as_str(), rounds);
+            }
+        },
+    }
     println!(rt; "problem and cells: every call ran")?;
     Ok(())
 }

@@ -1,16 +1,18 @@
 use dt_bits::NoMemory;
 use dt_terms::TermFault;
-use std::alloc::AllocError;
+use std::alloc::{AllocError, AllocFailed};
 use std::io;
 
 /// Why the program ended early.
 #[derive(Debug, Drop)]
 pub enum Stop {
-    /// Memory was wanted and not found.
+    /// Memory ran out.
     Memory,
     /// A term was refused.
     Refused(TermFault),
-    /// The clock, the words or an output failed.
+    /// A line of a trace is no line of one, or names what isn't there.
+    Line,
+    /// The clock, the words, a file or an output failed.
     Outside(io::Error),
 }
 
@@ -22,6 +24,12 @@ impl From<NoMemory> for Stop {
 
 impl From<AllocError> for Stop {
     fn from(_: AllocError) -> Stop {
+        Stop::Memory
+    }
+}
+
+impl<T: Drop> From<AllocFailed<T>> for Stop {
+    fn from(_: AllocFailed<T>) -> Stop {
         Stop::Memory
     }
 }

@@ -93,6 +93,10 @@ pub record AreAlike {D : Type 0} (ops : DomainOps D) (a b : D) : Type 0 where
 abbrev pub IsDomainOf : {D : Type 0} → DomainOps D → Width → D → Type 0
 IsDomainOf ops w d = ops.IsDomain d × (ops.width d ≡ w)
 
+-- the meet of a and b, or none where it is a itself
+abbrev pub IsNarrowed : {D : Type 0} → DomainOps D → D → D → Option D → Type 0
+IsNarrowed ops a b result = MatchOption result (ops.meet a b ≡ a) (λ d. d ≡ ops.meet a b)
+
 pub record DomainLaws {D : Type 0} (ops : DomainOps D) : Type 0 where
   -- each call that makes a domain makes one, of this width
   pub full_is : (w : Width) → IsWidth w.0 → IsDomainOf ops w (ops.full w)
@@ -107,6 +111,8 @@ pub record DomainLaws {D : Type 0} (ops : DomainOps D) : Type 0 where
   -- a domain has a width, and holds only numbers of that width
   pub width_is : (a : D) → ops.IsDomain a → IsWidth (bits_of ops a)
   pub held_fits : (a : D) (x : ℕ) → ops.IsDomain a → Holds ops a x → x < 2 ^ bits_of ops a
+  -- the known bits are bits of the width
+  pub mask_fits : (a : D) → ops.IsDomain a → ops.known_mask a < 2 ^ bits_of ops a
   -- full holds every number of its width
   pub full_holds : (w : Width) (x : ℕ) → IsWidth w.0 → x < 2 ^ w.0 → Holds ops (ops.full w) x
   -- one(v) holds v and nothing else, and all its bits are known

@@ -5,13 +5,16 @@
 //! Proved: `Domain` carries one function on plain data for each call (`ops`), each call answers
 //! exactly what its function does, and the laws of these functions (`laws`) hold at every type
 //! that implements the trait. `==` tells two values apart exactly where their data differ
-//! (`exact`). A type that implements `Deciding` also keeps its law (`decides`).
+//! (`exact`). `is_within` holds exactly where the meet with the other is the domain itself, and
+//! `narrowed_forward` and `narrowed_backward` give the meet with what `forward` and `backward` give;
+//! a type may have quicker bodies for these three. A type that implements `Deciding` also keeps its
+//! law (`decides`).
 //! Only tested: nothing.
 #![tactic(auto)]
 
-ghost use Rattle.std.specs.Prelude.{◌≡◌, ◌<◌, ◌^◌};
+ghost use Rattle.std.specs.Prelude.{◌≡◌, ◌<◌, ◌^◌, ◌↔◌, IsTrue};
 ghost use Rattle.dt_bits.specs.Bits.{IsWidth, IsValue};
-ghost use Rattle.dt_domain.specs.Domain.{DomainOps, DomainLaws, DecidingLaws, IsExact, Fitting, FittingAt, bits_of};
+ghost use Rattle.dt_domain.specs.Domain.{DomainOps, DomainLaws, DecidingLaws, IsExact, Fitting, FittingAt, IsNarrowed, bits_of, operand, result_width};
 
 use dt_bits::{Bv, Op, Width};
 
@@ -70,6 +73,18 @@ pub trait Domain: Copy + Eq {
         requires widths { ops.width self.now ≡ ops.width other.now }
         ensures { result ≡ ops.meet self.now other.now };
 
+    /// Whether the meet with the other is this domain itself: the other says nothing that this one
+    /// doesn't say.
+    #[inline(always)]
+    fn is_within(&self, other: &Self) -> bool
+        requires self_is { ops.IsDomain self.now }
+        requires other_is { ops.IsDomain other.now }
+        requires widths { ops.width self.now ≡ ops.width other.now }
+        ensures { IsTrue result ↔ (ops.meet self.now other.now ≡ self.now) }
+    {
+        self.meet(other) == *self
+    }
+
     /// A domain that holds the held numbers whose bit has this value.
     fn with_bit(&self, bit: u32, value: bool) -> Self
         requires self_is { ops.IsDomain self.now }
@@ -87,6 +102,46 @@ pub trait Domain: Copy + Eq {
     fn backward(op: Op, place: u32, outcome: &Self, a: &Self, b: &Self, c: &Self) -> Self
         requires { FittingAt ops op place outcome.now a.now b.now c.now }
         ensures { result ≡ ops.backward op place outcome.now a.now b.now c.now };
+
+    /// The meet with what `forward` gives, or None, which says that this is the domain itself.
+    #[inline(always)]
+    fn narrowed_forward(&self, op: Op, a: &Self, b: &Self, c: &Self) -> Option<Self>
+        requires self_is { ops.IsDomain self.now }
+        requires fitting { Fitting ops op a.now b.now c.now }
+        requires width { ops.width self.now ≡ result_width ops op a.now b.now c.now }
+        ensures { IsNarrowed ops self.now (ops.forward op a.now b.now c.now) result }
+    {
+        let from = Self::forward(op, a, b, c);
+        if self.is_within(&from) {
+            None
+        } else {
+            Some(self.meet(&from))
+        }
+    }
+
+    /// The meet with what `backward` gives, or None, which says that this is the domain itself.
+    #[inline(always)]
+    fn narrowed_backward(
+        &self,
+        op: Op,
+        place: u32,
+        outcome: &Self,
+        a: &Self,
+        b: &Self,
+        c: &Self,
+    ) -> Option<Self>
+        requires self_is { ops.IsDomain self.now }
+        requires fitting { FittingAt ops op place outcome.now a.now b.now c.now }
+        requires width { ops.width self.now ≡ ops.width (operand place a.now b.now c.now) }
+        ensures { IsNarrowed ops self.now (ops.backward op place outcome.now a.now b.now c.now) result }
+    {
+        let from = Self::backward(op, place, outcome, a, b, c);
+        if self.is_within(&from) {
+            None
+        } else {
+            Some(self.meet(&from))
+        }
+    }
 
     /// The laws of these functions.
     ghost laws: { DomainLaws ops };

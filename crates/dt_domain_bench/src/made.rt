@@ -23,7 +23,7 @@ pub trait Made: Domain {
 }
 
 /// A number of this width.
-#[tactic(auto, using(crate::proofs::Words::made_fits))]
+#[tactic(auto, using(dt_lemmas::proofs::Powers::top_fits))]
 fn number_of(seed: u128, width: Width) -> u128
     requires { IsWidth width.0 }
     ensures { result < 2 ^ width.0 }
@@ -32,7 +32,7 @@ fn number_of(seed: u128, width: Width) -> u128
 }
 
 /// The numbers that have the bits of `held` at the seed's bits.
-#[tactic(auto, using(crate::proofs::Words::made_within))]
+#[tactic(auto, using(dt_lemmas::proofs::Numbers::and_twice))]
 fn known_with(seed: u128, held: u128, width: Width) -> Known
     requires { IsWidth width.0 }
     ensures is { IsKnown result }

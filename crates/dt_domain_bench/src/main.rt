@@ -50,13 +50,12 @@ fn report<D: Made>(
     rt: &HostRuntime,
     plan: Plan,
     name: &str,
-    base: Call,
     call: Call,
     case: Case,
 ) -> io::Result<()>
     requires { IsCase case }
 {
-    let (made, operands) = best::<D>(rt, plan, base, case)?;
+    let (made, operands) = best::<D>(rt, plan, Call::Nothing, case)?;
     let (taken, answers) = best::<D>(rt, plan, call, case)?;
     if plan.shown && plan.rounds > 0 {
         let with = taken.saturating_mul(10) / plan.rounds as u128;
@@ -70,9 +69,9 @@ fn report<D: Made>(
 fn measure<D: Made>(rt: &HostRuntime, plan: Plan, index: u32) -> io::Result<()> {
     let case = case_at(index);
     let name = name_of(case.op);
-    report::<D>(rt, plan, name, Call::Operands, Call::Forward, case)?;
+    report::<D>(rt, plan, name, Call::Forward, case)?;
     for place in 0..arity(case.op) {
-        report::<D>(rt, plan, name, Call::Result, Call::Backward { place }, case)?;
+        report::<D>(rt, plan, name, Call::Backward { place }, case)?;
     }
     Ok(())
 }
@@ -86,8 +85,9 @@ fn measure_all<D: Made>(rt: &HostRuntime, plan: Plan, domain: &str) -> io::Resul
         measure::<D>(rt, plan, index)?;
     }
     let case = case_at(0);
-    report::<D>(rt, plan, "Meet", Call::Operands, Call::Meet, case)?;
-    report::<D>(rt, plan, "WithBit", Call::Operands, Call::WithBit, case)?;
+    report::<D>(rt, plan, "Meet", Call::Meet, case)?;
+    report::<D>(rt, plan, "Within", Call::Within, case)?;
+    report::<D>(rt, plan, "WithBit", Call::WithBit, case)?;
     Ok(())
 }
 

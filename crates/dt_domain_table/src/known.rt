@@ -1,12 +1,8 @@
 //! Known bits in a line: width, mask, value, and 1 where empty.
 ghost use Rattle.std.specs.Prelude.{◌≡◌, true, IfSome};
-ghost use Rattle.std.specs.Option.{ForSome};
 ghost use Rattle.dt_known.specs.Known.{IsKnown};
-ghost use Rattle.dt_known.specs.Ops.{known_ops};
-ghost use Rattle.dt_domain_table.specs.Cases.{IsCall, AreDomains};
 
-use crate::asked::{Given, asked};
-use crate::call::Call;
+use crate::asked::Written;
 use crate::numbers::small;
 use dt_bits::Width;
 use dt_known::Known;
@@ -40,35 +36,16 @@ fn known_at(given: &[u128], at: usize) -> Option<Known>
     if is_known(&known) { Some(known) } else { None }
 }
 
-fn given_in(numbers: &[u128]) -> Option<Given<Known>>
-    ensures { IfSome result (AreDomains known_ops) }
-{
-    Some(Given {
-        a: known_at(numbers, 3)?,
-        b: known_at(numbers, 7)?,
-        c: known_at(numbers, 11)?,
-        outcome: known_at(numbers, 15)?,
-    })
-}
+impl Written for Known {
+    fn read(numbers: &[u128], place: usize) -> Option<Known> {
+        known_at(numbers, 3 + 4 * place)
+    }
 
-fn answer_of(call: Option<Call>, numbers: &[u128]) -> Option<Known>
-    requires { ForSome call IsCall }
-{
-    asked(call?, &given_in(numbers)?)
-}
-
-/// Prints the answer.
-pub fn answer(rt: &HostRuntime, call: Option<Call>, numbers: &[u128]) -> io::Result<()>
-    requires { ForSome call IsCall }
-{
-    match answer_of(call, numbers) {
-        Some(known) => {
-            let width = known.width.0;
-            let mask = known.mask;
-            let value = known.value;
-            let empty = known.empty as u32;
-            println!(rt; "{width} {mask} {value} {empty}")
-        }
-        None => println!(rt; "not a case"),
+    fn print(&self, rt: &HostRuntime) -> io::Result<()> {
+        let width = self.width.0;
+        let mask = self.mask;
+        let value = self.value;
+        let empty = self.empty as u32;
+        println!(rt; "{width} {mask} {value} {empty}")
     }
 }

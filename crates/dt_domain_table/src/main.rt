@@ -16,8 +16,12 @@ mod numbers;
 mod pair;
 mod range;
 
+use crate::asked::answer;
 use crate::call::call_of;
 use crate::numbers::numbers;
+use dt_known::Known;
+use dt_pair::Pair;
+use dt_range::Range;
 use std::io;
 
 fn main(rt: HostRuntime) -> io::Result<()> {
@@ -28,9 +32,9 @@ fn main(rt: HostRuntime) -> io::Result<()> {
         let domain = words.next().unwrap_or("");
         let call = call_of(words.next().unwrap_or(""), given.as_slice());
         match domain {
-            "known" => known::answer(&rt, call, given.as_slice())?,
-            "range" => range::answer(&rt, call, given.as_slice())?,
-            "pair" => pair::answer(&rt, call, given.as_slice())?,
+            "known" => answer::<Known>(&rt, call, given.as_slice())?,
+            "range" => answer::<Range>(&rt, call, given.as_slice())?,
+            "pair" => answer::<Pair>(&rt, call, given.as_slice())?,
             _ => println!(rt; "not a case")?,
         }
     }

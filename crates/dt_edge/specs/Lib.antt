@@ -4,3 +4,4 @@ pub mod Files
 pub mod MemoryShelf
 pub mod MemorySink
 pub mod Counts
+pub mod Writers

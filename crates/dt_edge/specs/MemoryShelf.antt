@@ -1,6 +1,8 @@
 -- What a shelf in memory is: its files, the calls that fail, its counts, and what its next call gives.
-use Rattle.std.specs.Prelude.{ℕ, ◌≡◌, ◌+◌, List, length, Option, Some, None, Result, Ok, Err, Bool, true, if◌then◌else◌, is_ok, nat_lt, min}
-use Rattle.std.specs.Global.{Vec}
+use Rattle.std.specs.Prelude.{ℕ, ◌≡◌, ◌+◌, List, length, Option, Some, None, Result, Ok, Err, Bool, true, if◌then◌else◌, is_ok, nat_lt, min, map, String}
+use Rattle.std.specs.Option.{option_map}
+use Rattle.std.specs.String.{string_bytes}
+use Rattle.std.specs.Global.{Vec, Global}
 use Rattle.dt_edge.specs.Causes.{is_listed}
 use Rattle.dt_edge.specs.Files.{file_of}
 use Rattle.dt_edge.specs.declared.edge.ShelfFault.{ShelfFault}
@@ -26,6 +28,14 @@ faults_of shelf = shelf.faults
 -- how many bytes they took
 abbrev pub taken_of : MemoryShelf → ℕ
 taken_of shelf = shelf.taken
+
+-- names in a list, where there is one
+abbrev pub names_of : Option (Vec (String Global)) → Option (List (List ℕ))
+names_of names = option_map (λ known. map string_bytes known.items) names
+
+-- the names that were asked for, in order, until memory ran out for one
+abbrev pub asked_of : MemoryShelf → Option (List (List ℕ))
+asked_of shelf = names_of shelf.asked
 
 -- whether the next call is listed
 abbrev pub is_failing : MemoryShelf → Bool

@@ -1,4 +1,4 @@
--- What a shelf tells of its files, and a sink of its bytes.
+-- What a shelf tells of its files and of the names that were asked for, and a sink of its bytes.
 use Rattle.std.specs.Prelude.{ℕ, ◌≡◌, ◌<◌, List, ◌++◌, length, Option, Some, None}
 
 -- the bytes of each name that has some, or nothing where a shelf doesn't tell
@@ -19,6 +19,12 @@ IsAbsent (Some files) name = files name ≡ None
 abbrev pub IsLong : Told → List ℕ → ℕ → Type 0
 IsLong None name limit = Unit {0}
 IsLong (Some files) name limit = (bytes : List ℕ) × (files name ≡ Some bytes) × (limit < length bytes)
+
+-- the names that were asked for grow by these; a shelf may stop telling them
+abbrev pub Asks : Option (List (List ℕ)) → Option (List (List ℕ)) → List (List ℕ) → Type 0
+Asks old None names = Unit {0}
+Asks None (Some new) names = ⊥
+Asks (Some old) (Some new) names = new ≡ old ++ names
 
 -- what a sink holds after these bytes more, where it tells
 abbrev pub after : Option (List ℕ) → List ℕ → Option (List ℕ)

@@ -1,8 +1,11 @@
-ghost use Rattle.std.specs.Prelude.{◌≡◌, ◌<◌, ◌≤◌, ◌+◌, ◌^◌, ◌⊎◌, ◌∷◌, [], ℕ, List, Option, length, IfOk, OnOk, OnErr};
+ghost use Rattle.std.specs.Prelude.{◌≡◌, ◌≢◌, ◌<◌, ◌≤◌, ◌+◌, ◌^◌, ◌⊎◌, ◌∷◌, [], ℕ, List, Option, length, IfOk, OnOk, OnErr};
 ghost use Rattle.dt_edge.specs.Causes.{Rose, RoseBy};
-ghost use Rattle.dt_edge.specs.Told.{Told, Has, IsAbsent, IsLong, after, with_pieces, AppendsPart};
+ghost use Rattle.dt_edge.specs.Told.{Told, Has, IsAbsent, IsLong, Asks, after, with_pieces, AppendsPart};
 
 use std::alloc::Global;
+use std::error::Error;
+use std::fmt;
+use std::fmt::Display;
 
 /// Why a file was not read.
 #[derive(Clone, Copy, Debug, PartialEq, Eq)]
@@ -17,9 +20,29 @@ pub enum ShelfFault {
     Memory,
 }
 
+impl Display for ShelfFault {
+    fn fmt<W: fmt::Write>(&self, f: &mut fmt::Formatter<W>) -> fmt::Result {
+        match self {
+            ShelfFault::Failed => write!(f, "the file could not be read"),
+            ShelfFault::TooLong => write!(f, "the file is too long"),
+            ShelfFault::Memory => write!(f, "memory ran out"),
+        }
+    }
+}
+
+impl Error for ShelfFault {}
+
 /// The outside didn't take all bytes.
 #[derive(Clone, Copy, Debug, PartialEq, Eq)]
 pub struct SinkFault;
+
+impl Display for SinkFault {
+    fn fmt<W: fmt::Write>(&self, f: &mut fmt::Formatter<W>) -> fmt::Result {
+        write!(f, "the output could not be written")
+    }
+}
+
+impl Error for SinkFault {}
 
 /// Files by their names.
 pub trait Shelf {
@@ -32,6 +55,9 @@ pub trait Shelf {
     // How many bytes were taken from the outside, a count of the same kind.
     ghost taken: { Self → ℕ };
 
+    // The names that were asked for, in order, where the shelf tells them.
+    ghost asked: { Self → Option (List (List ℕ)) };
+
     // No call fails from here on.
     ghost steady: { Self → Type 0 };
 
@@ -43,18 +69,22 @@ pub trait Shelf {
     fn read_all(&mut self, alloc: Global, name: &str, limit: u64) -> Result<Vec<u8>, ShelfFault>
         requires { limit < 2 ^ 32 }
 
-        // What is told stays, and the counts never fall.
+        // What is told of the files stays, and the counts never fall.
         ensures told { told self.new ≡ told self.old }
         ensures faults { faults self.old ≤ faults self.new }
         ensures taken { taken self.old ≤ taken self.new }
+
+        // The name was asked for after those before, where the shelf still tells them.
+        ensures asked { Asks (asked self.old) (asked self.new) (name.now ∷ []) }
 
         // The bytes are the file's, within the limit.
         ensures within { IfOk result (λ bytes. length bytes.items ≤ limit) }
         ensures bytes { IfOk result (λ bytes. Has (told self.old) name.now bytes.items) }
 
-        // Failed and TooLong have their causes.
+        // Failed and TooLong have their causes, and no other answer counts a fault.
         ensures failed { result ≡ Err ShelfFault.Failed
             → Rose (faults self.old) (faults self.new) ⊎ IsAbsent (told self.old) name.now }
+        ensures quiet { result ≢ Err ShelfFault.Failed → faults self.new ≡ faults self.old }
         ensures long { result ≡ Err ShelfFault.TooLong → IsLong (told self.old) name.now limit }
         ensures long_taken { result ≡ Err ShelfFault.TooLong
             → RoseBy (limit + 1) (taken self.old) (taken self.new) }
@@ -85,7 +115,8 @@ pub trait Sink {
     fn write_all(&mut self, bytes: &[u8]) -> Result<(), SinkFault>
         ensures faults { faults self.old ≤ faults self.new }
 
-        // Ok appended all.
+        // Ok appended all, and counts no fault.
+        ensures quiet { OnOk result (faults self.new ≡ faults self.old) }
         ensures all { OnOk result (written self.new ≡ after (written self.old) bytes.now) }
         ensures piece { OnOk result (pieces self.new ≡ with_pieces (pieces self.old) (bytes.now ∷ [])) }
 

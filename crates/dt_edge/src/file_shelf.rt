@@ -1,4 +1,5 @@
-ghost use Rattle.std.specs.Prelude.{◌≡◌, ◌<◌, ◌≤◌, ◌+◌, ◌^◌, length, IfOk};
+ghost use Rattle.std.specs.Prelude.{◌≡◌, ◌<◌, ◌≤◌, ◌+◌, ◌^◌, length, IfOk, IfSome};
+ghost use Rattle.std.specs.Io.KnownBytes.{Consumes, IsAtEnd};
 ghost use Rattle.dt_edge.specs.Causes.{RoseBy, risen};
 
 use crate::edge::{Shelf, ShelfFault};
@@ -10,7 +11,7 @@ use std::rt::Files;
 // So many bytes are asked for at once.
 const CHUNK: usize = 65536;
 
-// Reads to the end, where that comes within the limit, and adds up what was taken. A source that
+// The bytes to the end, where that comes within the limit. What was taken is added up. A source that
 // gives nothing is at its end.
 fn fill<F: Read>(
     alloc: Global,
@@ -21,6 +22,13 @@ fn fill<F: Read>(
     requires { limit < 2 ^ 32 }
     ensures within { IfOk result (λ bytes. length bytes.items ≤ limit) }
     ensures took { IfOk result (λ bytes. taken.new ≡ risen taken.old (length bytes.items)) }
+
+    // They are all that the source had left, and TooLong tells that this was more than the limit.
+    ensures given { IfOk result (λ bytes.
+        Consumes (F.remaining file.old) (F.remaining file.new) bytes.items) }
+    ensures end { IfOk result (λ _. IsAtEnd (F.remaining file.new)) }
+    ensures more { result ≡ Err ShelfFault.TooLong
+        → IfSome (F.remaining file.old) (λ left. limit < length left) }
     ensures later { taken.old ≤ taken.new }
     ensures most { taken.new ≤ taken.old + (limit + 1) }
     ensures long { result ≡ Err ShelfFault.TooLong → RoseBy (limit + 1) taken.old taken.new }
@@ -71,7 +79,7 @@ impl<R: Files> FileShelf<R> {
 }
 
 impl<R: Files> Shelf for FileShelf<R> {
-    ghost use Rattle.std.specs.Prelude.{None, ◌≡◌, ◌≤◌, ◌<◌, ◌+◌, ◌^◌, length, IfOk};
+    ghost use Rattle.std.specs.Prelude.{None, ◌≡◌, ◌≢◌, ◌≤◌, ◌<◌, ◌+◌, ◌^◌, length, IfOk};
     ghost use Rattle.dt_edge.specs.Causes.{Rose, RoseBy, risen};
     ghost use Rattle.dt_edge.specs.Counts.{shelf_faults, shelf_taken};
 
@@ -80,6 +88,8 @@ impl<R: Files> Shelf for FileShelf<R> {
     ghost faults = { shelf_faults };
 
     ghost taken = { shelf_taken };
+
+    ghost asked = { λ _. None };
 
     ghost steady = { λ _. ⊥ };
 
@@ -92,6 +102,8 @@ impl<R: Files> Shelf for FileShelf<R> {
         ensures within { IfOk result (λ bytes. length bytes.items ≤ limit) }
         ensures failed { result ≡ Err ShelfFault.Failed
             → Rose (shelf_faults self.old) (shelf_faults self.new) }
+        ensures quiet { result ≢ Err ShelfFault.Failed
+            → shelf_faults self.new ≡ shelf_faults self.old }
         ensures long_taken { result ≡ Err ShelfFault.TooLong
             → RoseBy (limit + 1) (shelf_taken self.old) (shelf_taken self.new) }
 

@@ -1,5 +1,7 @@
-ghost use Rattle.std.specs.Prelude.{◌≡◌, option_copied};
+ghost use Rattle.std.specs.Prelude.{◌≡◌, ◌∷◌, [], option_copied};
 ghost use Rattle.dt_edge.specs.Files.{file_of};
+ghost use Rattle.dt_edge.specs.MemoryShelf.{names_of};
+ghost use Rattle.dt_edge.specs.Told.{Asks};
 
 use crate::edge::{Shelf, ShelfFault};
 use crate::failing::is_listed;
@@ -24,8 +26,23 @@ fn bytes_named<'a>(files: &'a [File], name: &str) -> Option<&'a [u8]>
     None
 }
 
-/// Files in memory. It tells them. The calls of `read_all` are counted from 0, and those at the
-/// positions in a list fail.
+// The names with one more, or nothing from where memory runs out.
+fn with_name(names: Option<Vec<String>>, name: &str) -> Option<Vec<String>>
+    ensures { Asks (names_of names) (names_of result) (name.now ∷ []) }
+{
+    let mut names = names?;
+    let alloc = *names.allocator();
+    let Ok(name) = String::from_str(alloc, name) else {
+        return None;
+    };
+    match names.push(name) {
+        Ok(()) => Some(names),
+        Err(_) => None,
+    }
+}
+
+/// Files in memory. It tells them, and the names that were asked for until memory runs out for one.
+/// The calls of `read_all` are counted from 0, and those at the positions in a list fail.
 #[derive(Drop)]
 pub struct MemoryShelf {
     files: Vec<File>,
@@ -33,12 +50,13 @@ pub struct MemoryShelf {
     calls: u64,
     faults: u64,
     taken: u64,
+    asked: Option<Vec<String>>,
 }
 
 impl MemoryShelf {
     ghost use Rattle.std.specs.Prelude.{◌≡◌, [], ℕ, List, Some, None, IfOk, OnOk, OnErr, if◌then◌else◌};
     ghost use Rattle.std.specs.Str.{bytes_eq};
-    ghost use Rattle.dt_edge.specs.MemoryShelf.{files_of, failing_of, calls_of, faults_of, taken_of};
+    ghost use Rattle.dt_edge.specs.MemoryShelf.{files_of, failing_of, calls_of, faults_of, taken_of, asked_of};
 
     /// A shelf without files, whose calls of `read_all` at the positions in `failing` fail.
     pub fn new(alloc: Global, failing: &[u32]) -> Result<MemoryShelf, NoMemory>
@@ -47,6 +65,7 @@ impl MemoryShelf {
         ensures calls { IfOk result (λ shelf. calls_of shelf ≡ 0) }
         ensures faults { IfOk result (λ shelf. faults_of shelf ≡ 0) }
         ensures taken { IfOk result (λ shelf. taken_of shelf ≡ 0) }
+        ensures asked { IfOk result (λ shelf. asked_of shelf ≡ Some []) }
     {
         Ok(MemoryShelf {
             files: Vec::new(alloc),
@@ -54,6 +73,7 @@ impl MemoryShelf {
             calls: 0,
             faults: 0,
             taken: 0,
+            asked: Some(Vec::new(alloc)),
         })
     }
 
@@ -69,6 +89,7 @@ impl MemoryShelf {
         ensures calls { calls_of self.new ≡ calls_of self.old }
         ensures faults { faults_of self.new ≡ faults_of self.old }
         ensures taken { taken_of self.new ≡ taken_of self.old }
+        ensures asked { asked_of self.new ≡ asked_of self.old }
     {
         let alloc = *self.files.allocator();
         let name = String::from_str(alloc, name)?;
@@ -79,16 +100,18 @@ impl MemoryShelf {
 }
 
 impl Shelf for MemoryShelf {
-    ghost use Rattle.std.specs.Prelude.{◌≡◌, ◌≤◌, ◌+◌, ◌<◌, ◌^◌, ◌⊎◌, Some, IsSome, length, IfOk, [], if◌then◌else◌};
+    ghost use Rattle.std.specs.Prelude.{◌≡◌, ◌≢◌, ◌≤◌, ◌+◌, ◌<◌, ◌^◌, ◌⊎◌, ◌∷◌, Some, IsSome, length, IfOk, [], if◌then◌else◌};
     ghost use Rattle.dt_edge.specs.Causes.{Rose, RoseBy, risen};
-    ghost use Rattle.dt_edge.specs.Told.{Has, IsAbsent, IsLong};
-    ghost use Rattle.dt_edge.specs.MemoryShelf.{files_of, failing_of, calls_of, faults_of, taken_of, is_failing, read_of, taken_by, Gives};
+    ghost use Rattle.dt_edge.specs.Told.{Has, IsAbsent, IsLong, Asks};
+    ghost use Rattle.dt_edge.specs.MemoryShelf.{files_of, failing_of, calls_of, faults_of, taken_of, asked_of, is_failing, read_of, taken_by, Gives};
 
     ghost told = { λ shelf. Some (files_of shelf) };
 
     ghost faults = { faults_of };
 
     ghost taken = { taken_of };
+
+    ghost asked = { asked_of };
 
     ghost steady = { λ shelf. failing_of shelf ≡ [] };
 
@@ -99,11 +122,13 @@ impl Shelf for MemoryShelf {
         ensures told { Some (files_of self.new) ≡ Some (files_of self.old) }
         ensures faults { faults_of self.old ≤ faults_of self.new }
         ensures taken { taken_of self.old ≤ taken_of self.new }
+        ensures asked { Asks (asked_of self.old) (asked_of self.new) (name.now ∷ []) }
         ensures within { IfOk result (λ bytes. length bytes.items ≤ limit) }
         ensures bytes { IfOk result (λ bytes. Has (Some (files_of self.old)) name.now bytes.items) }
         ensures failed { result ≡ Err ShelfFault.Failed
             → Rose (faults_of self.old) (faults_of self.new)
             ⊎ IsAbsent (Some (files_of self.old)) name.now }
+        ensures quiet { result ≢ Err ShelfFault.Failed → faults_of self.new ≡ faults_of self.old }
         ensures long { result ≡ Err ShelfFault.TooLong
             → IsLong (Some (files_of self.old)) name.now limit }
         ensures long_taken { result ≡ Err ShelfFault.TooLong
@@ -128,6 +153,7 @@ impl Shelf for MemoryShelf {
         ensures calls { calls_of self.new ≡ risen (calls_of self.old) 1 }
         ensures failing { failing_of self.new ≡ failing_of self.old }
     {
+        self.asked = with_name(self.asked.take(), name);
         let call = self.calls;
         self.calls = call.saturating_add(1);
         if is_listed(self.failing.as_slice(), call) {

@@ -107,6 +107,7 @@ impl Sink for MemorySink {
     fn write_all(&mut self, bytes: &[u8]) -> Result<(), SinkFault>
         // What the trait asks.
         ensures faults { faults_of self.old ≤ faults_of self.new }
+        ensures quiet { OnOk result (faults_of self.new ≡ faults_of self.old) }
         ensures all { OnOk result (Some (bytes_of self.new)
             ≡ after (Some (bytes_of self.old)) bytes.now) }
         ensures part { OnErr result (AppendsPart (Some (bytes_of self.old))

@@ -1,4 +1,10 @@
+ghost use Rattle.std.specs.Prelude.{◌≡◌, OnOk, OnErr};
+ghost use Rattle.std.specs.Io.KnownBytes.{Appends};
+ghost use Rattle.dt_edge.specs.Writers.{AppendsFirst};
+
 use crate::edge::{Sink, SinkFault};
+use std::io;
+use std::io::Write;
 
 /// The standard output. It tells nothing of what it took. Its faults are the failures of the output,
 /// and where it takes nothing of a piece that isn't empty.
@@ -20,11 +26,14 @@ impl<R: Print> OutSink<R> {
     }
 }
 
-// Writes all, unless the output fails or takes nothing.
-fn write_all_to<R: Print>(out: &R, bytes: &[u8]) -> Result<(), SinkFault> {
+// Writes all, unless the output fails or takes nothing; then it took some first part.
+fn write_all_to<W: Write>(out: &mut W, bytes: &[u8]) -> Result<(), SinkFault>
+    ensures all { OnOk result (Appends (W.contents out.old) (W.contents out.new) bytes.now) }
+    ensures part { OnErr result (AppendsFirst (W.contents out.old) (W.contents out.new) bytes.now) }
+{
     let mut rest = bytes;
     'writes: while !rest.is_empty() {
-        match out.write_some(rest) {
+        match out.write(rest) {
             Ok(count) if count > 0 => rest = &rest[count..],
             _ => return Err(SinkFault),
         }
@@ -45,7 +54,7 @@ impl<R: Print> Sink for OutSink<R> {
     ghost takes = { λ _ _. ⊥ };
 
     fn write_all(&mut self, bytes: &[u8]) -> Result<(), SinkFault> {
-        let written = write_all_to(&self.out, bytes);
+        let written = write_all_to(&mut io::writer(&self.out), bytes);
         if written.is_err() {
             self.faults = self.faults.saturating_add(1);
         }

@@ -1,9 +1,9 @@
-pub mod Steps
-pub mod Blocks
-pub mod Whole
+pub mod Numbers
+pub mod Printed
 pub mod Rising
 pub mod Widths
 pub mod Rows
 pub mod Runs
-pub mod Again
-pub mod Kept
+pub mod RoundTrip
+pub mod Entries
+pub mod ReadImages

@@ -6,7 +6,7 @@ use Rattle.std.proofs.Math.Seq.{get_or-append_seam}
 use Rattle.dt_bits.specs.declared.memory.Word.{Word}
 use Rattle.dt_bits.specs.Memory.{IsRising}
 use Rattle.dt_lex.specs.Reading.{last_of}
-use Rattle.dt_image.specs.Reading.{is_above}
+use Rattle.dt_image.specs.Entry.{is_above}
 
 last_is : {X : Type 0} (w : X) (ws : List X) (d : X) → last_of w ws ≡ get_or (w ∷ ws) (length ws) d
 last_is w [] d = refl

@@ -6,15 +6,18 @@ use Rattle.std.specs.List.{AllByRecursion}
 use Rattle.std.proofs.lemmas.List.{length-map, length-append}
 use Rattle.dt_lex.specs.Numeral.{decimal, hex}
 use Rattle.dt_lex.specs.Printing.{body_of, spaced, IsWord, IsRow}
-use Rattle.dt_lex.specs.Reading.{◌>>=◌, row_entry}
+use Rattle.dt_lex.specs.Reading.{◌>>=◌, with_place, row_entry}
 use Rattle.dt_lex.proofs.Printed.{number_of-hex, number_of-decimal, IsWord-hex, IsWord-decimal, length-hex-le, length-decimal-le, spaced_le}
-use Rattle.dt_model.specs.Data.{Data}
+use Rattle.dt_model.specs.ModelData.{ModelData}
 use Rattle.dt_image.specs.declared.draft.Draft.{Draft}
 use Rattle.dt_image.specs.declared.line.Line.{Line}
 use Rattle.dt_image.specs.declared.line.Line.TheVariants.{Header, Tables, Context, Access, Word, End}
-use Rattle.dt_image.specs.Lines.{numbers_of, pair_of, two_of, access_of, word_of, spelled}
-use Rattle.dt_image.specs.Reading.{cause_of, judged, grammar}
-use Rattle.dt_image.specs.Printed.{row_of}
+use Rattle.dt_image.specs.Line.{numbers_of, pair_of, two_of, access_of, word_of, spelled}
+use Rattle.dt_image.specs.declared.entry.Entry.{Entry}
+use Rattle.dt_image.specs.Fault.{at_line}
+use Rattle.dt_image.specs.Entry.{meaning}
+use Rattle.dt_image.specs.Read.{grammar}
+use Rattle.dt_image.specs.Print.{row_of}
 
 -- ---- one line
 
@@ -56,7 +59,7 @@ spelled_again (Access k vs) h = ap (option_and_then access_of) (access_hex k vs 
 spelled_again (Word w) h = ap (option_map word_of) (pair_hex w.address w.value h.0 h.1)
 spelled_again End h = refl
 
-pub row_is : (m : Data) (n : ℕ) (d : Draft) (l : Line) → row_entry (grammar m) n d (row_of l) ≡ (judged m n d (spelled_row (row_of l)) >>= λ e. Ok (Some e))
+pub row_is : (m : ModelData) (n : ℕ) (d : Draft) (l : Line) → row_entry (grammar m) n d (row_of l) ≡ (with_place (at_line n) (meaning m d (spelled_row (row_of l))) >>= λ e. Ok (Some e))
 row_is m n d Header = refl
 row_is m n d (Tables lo hi) = refl
 row_is m n d (Context vs) = refl
@@ -64,9 +67,9 @@ row_is m n d (Access k vs) = refl
 row_is m n d (Word w) = refl
 row_is m n d End = refl
 
-pub row_again : (m : Data) (n : ℕ) (d : Draft) (l : Line) → IsSmall l → cause_of m d l ≡ None → row_entry (grammar m) n d (row_of l) ≡ Ok (Some l)
-row_again m n d l small good =
-    row_is m n d l ∙ ap (λ (o : Option Line). judged m n d o >>= λ e. Ok (Some e)) (spelled_again l small) ∙ rw good refl
+pub row_again : (m : ModelData) (n : ℕ) (d : Draft) (l : Line) (e : Entry) → IsSmall l → meaning m d (Some l) ≡ Ok e → row_entry (grammar m) n d (row_of l) ≡ Ok (Some e)
+row_again m n d l e small good =
+    row_is m n d l ∙ ap (λ (o : Option Line). with_place (at_line n) (meaning m d o) >>= λ e. Ok (Some e)) (spelled_again l small) ∙ ap (λ r. with_place (at_line n) r >>= λ e. Ok (Some e)) good
 
 -- ---- a line is a short row of words
 

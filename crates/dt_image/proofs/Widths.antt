@@ -1,12 +1,12 @@
 -- Values against the widths of their names, and bounds against the model's addresses.
-use Rattle.std.proofs.Common.{◌≡◌, ℕ, ◌+◌, ◌-◌, ◌/◌, ◌^◌, ◌<◌, ◌≤◌, true, false, eqb, ltb, leb, List, [], ◌∷◌, length, drop, get_or, refl, sym, ap, ◌∙◌, arith, inl, inr}
+use Rattle.std.proofs.Common.{◌≡◌, ℕ, ◌+◌, ◌/◌, ◌^◌, ◌<◌, ◌≤◌, true, false, eqb, ltb, leb, List, [], ◌∷◌, length, drop, get_or, refl, sym, ap, ◌∙◌, arith, inl, inr}
 use Rattle.std.proofs.Math.Pow.{pow_mono}
 use Rattle.std.proofs.Math.Nat.{div-eq_of_lt}
-use Rattle.std.proofs.lemmas.Bool.{cases_lt, le-leb, lt-leb, lt-ltb, le-ltb, eq-eqb, ne_eqb}
+use Rattle.std.proofs.lemmas.Bool.{cases_lt, le-leb, lt-ltb, le-ltb, eq-eqb, ne_eqb}
 use Rattle.std.proofs.lemmas.Nat.{le-div, pow_pos}
 use Rattle.std.proofs.lemmas.List.{drop_more, drop_all}
 use Rattle.dt_model.specs.declared.model.Named.{Named}
-use Rattle.dt_image.specs.Reading.{all_fit}
+use Rattle.dt_image.specs.Entry.{all_fit}
 
 pub wide_fits : (w v : ℕ) → 128 ≤ w → v < 2 ^ 128 → leb 128 w ≡ ltb v (2 ^ w)
 wide_fits w v h lt =
@@ -37,10 +37,3 @@ fit_none (v ∷ vs) = refl
 
 pub fit_end : (ns : List Named) (vs : List ℕ) (i : ℕ) → length ns ≤ i → all_fit (drop i ns) (drop i vs) ≡ true
 fit_end ns vs i past = ap (λ (xs : List Named). all_fit xs (drop i vs)) (drop_all i ns past) ∙ fit_none (drop i vs)
-
-pub le_from_pred : (n p : ℕ) → 0 < n → ltb (n - 1) p ≡ leb n p
-le_from_pred n p some =
-    elim (cases_lt p n) [
-      | inl lt ↦ le-ltb (n - 1) p (omega arith) ∙ sym (lt-leb n p lt)
-      | inr le ↦ lt-ltb (n - 1) p (omega arith) ∙ sym (le-leb n p le)
-    ]

@@ -1,6 +1,8 @@
 pub mod Images
-pub mod Lines
-pub mod Reading
-pub mod Added
-pub mod Drafts
-pub mod Printed
+pub mod Fault
+pub mod Line
+pub mod Entry
+pub mod Draft
+pub mod Read
+pub mod Print
+pub mod Laws

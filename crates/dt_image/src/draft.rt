@@ -1,16 +1,13 @@
-ghost use Rattle.std.specs.Prelude.{◌≡◌, ◌<◌, ◌^◌, OnOk, []};
-ghost use Rattle.dt_image.specs.Added.{added, position_in};
-
+use crate::entry::Entry;
 use crate::image::ImageAccess;
-use crate::line::Line;
 use dt_bits::{NoMemory, Seq, Word};
 use std::alloc::Global;
 
 /// What the lines of an image text have declared so far.
 #[derive(Debug, Drop)]
 pub struct Draft {
-    /// The rank of the last line: 1 to 6 in the order of the lines of a text, and 0 before the first.
-    pub place: u8,
+    /// How many sections of the text have come, up to that of the last line.
+    pub place: usize,
     /// The first address of table memory, and the first one behind it.
     pub bounds: (u128, u128),
     pub contexts: Seq<Seq<u128>>,
@@ -18,55 +15,47 @@ pub struct Draft {
     pub words: Seq<Word>,
 }
 
-/// The draft before the first line.
-pub fn empty_draft(alloc: Global) -> Draft
-    ensures { result ≡ record { place = 0; bounds = (0, 0); contexts = []; accesses = []; words = [] } }
-{
-    Draft {
-        place: 0,
-        bounds: (0, 0),
-        contexts: Seq::new(alloc),
-        accesses: Seq::new(alloc),
-        words: Seq::new(alloc),
-    }
-}
+impl Draft {
+    ghost use Rattle.std.specs.Prelude.{◌≡◌, OnOk};
+    ghost use Rattle.dt_image.specs.Draft.{nothing, added};
 
-/// Adds a line, whose position of a context fits 32 bits.
-pub fn add(draft: &mut Draft, line: Line) -> Result<(), NoMemory>
-    requires { position_in line < 2 ^ 32 }
-    ensures { OnOk result (draft.new ≡ added draft.old line) }
-{
-    match line {
-        Line::Header => {
-            draft.place = 1;
-            Ok(())
+    /// What no line declares. It takes no memory.
+    pub fn new(alloc: Global) -> Draft
+        ensures { result ≡ nothing }
+    {
+        Draft {
+            place: 0,
+            bounds: (0, 0),
+            contexts: Seq::new(alloc),
+            accesses: Seq::new(alloc),
+            words: Seq::new(alloc),
         }
-        Line::Tables(lo, hi) => {
-            draft.bounds = (lo, hi);
-            draft.place = 2;
-            Ok(())
+    }
+
+    /// Adds what a line declares.
+    pub fn add(&mut self, entry: Entry) -> Result<(), NoMemory>
+        ensures { OnOk result (self.new ≡ added self.old entry) }
+    {
+        match entry {
+            Entry::Header => self.place = 1,
+            Entry::Tables(lo, hi) => {
+                self.bounds = (lo, hi);
+                self.place = 2;
+            }
+            Entry::Context(values) => {
+                self.contexts.push(values)?;
+                self.place = 3;
+            }
+            Entry::Access(access) => {
+                self.accesses.push(access)?;
+                self.place = 4;
+            }
+            Entry::Word(word) => {
+                self.words.push(word)?;
+                self.place = 5;
+            }
+            Entry::End => self.place = 6,
         }
-        Line::Context(values) => {
-            draft.contexts.push(values)?;
-            draft.place = 3;
-            Ok(())
-        }
-        Line::Access(position, inputs) => {
-            draft.accesses.push(ImageAccess {
-                context: position as u32,
-                inputs,
-            })?;
-            draft.place = 4;
-            Ok(())
-        }
-        Line::Word(word) => {
-            draft.words.push(word)?;
-            draft.place = 5;
-            Ok(())
-        }
-        Line::End => {
-            draft.place = 6;
-            Ok(())
-        }
+        Ok(())
     }
 }

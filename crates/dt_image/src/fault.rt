@@ -1,8 +1,10 @@
 ghost use Rattle.std.specs.Prelude.{◌≡◌};
 ghost use Rattle.dt_image.specs.declared.fault.ImageFault.TheVariants as faults;
+ghost use Rattle.dt_image.specs.Fault.{at_line};
 
 use dt_bits::NoMemory;
 use dt_lex::LexFault;
+use std::fmt;
 
 /// Why a text is no image of a model: the first bad line, from 1, and the first of its causes in
 /// this order.
@@ -30,6 +32,72 @@ pub enum Cause {
     Shape,
     OutOfRange,
     Order,
+}
+
+/// The fault of the line of this number.
+pub fn at_line(number: u32, cause: Cause) -> ImageFault
+    ensures { result ≡ at_line number cause }
+{
+    match cause {
+        Cause::Form => ImageFault::Form(number),
+        Cause::Shape => ImageFault::Shape(number),
+        Cause::OutOfRange => ImageFault::OutOfRange(number),
+        Cause::Order => ImageFault::Order(number),
+    }
+}
+
+impl ImageFault {
+    ghost use Rattle.std.specs.Prelude.{◌≡◌};
+    ghost use Rattle.dt_image.specs.Fault.{line_of, word_of};
+
+    /// The number of the bad line, from 1; None where memory ran out.
+    pub fn line(self) -> Option<u32>
+        ensures { result ≡ line_of self }
+    {
+        match self {
+            ImageFault::Memory => None,
+            ImageFault::Lex(fault) => fault.line(),
+            ImageFault::Form(line)
+            | ImageFault::Shape(line)
+            | ImageFault::OutOfRange(line)
+            | ImageFault::Order(line) => Some(line),
+        }
+    }
+
+    /// The one word of the cause: `memory`, `long`, `byte`, `form`, `shape`, `out-of-range` or
+    /// `order`.
+    pub fn word(self) -> &'static str
+        ensures { result.now ≡ word_of self }
+    {
+        match self {
+            ImageFault::Memory => "memory",
+            ImageFault::Lex(fault) => fault.word(),
+            ImageFault::Form(_) => "form",
+            ImageFault::Shape(_) => "shape",
+            ImageFault::OutOfRange(_) => "out-of-range",
+            ImageFault::Order(_) => "order",
+        }
+    }
+}
+
+impl fmt::Display for ImageFault {
+    fn fmt<W: fmt::Write>(&self, f: &mut fmt::Formatter<W>) -> fmt::Result {
+        match self {
+            ImageFault::Memory => f.write_str("memory ran out"),
+            ImageFault::Lex(fault) => write!(f, "{fault}"),
+            ImageFault::Form(line) => write!(f, "line {line} is no line of an image here"),
+            ImageFault::Shape(line) => {
+                write!(f, "line {line} has another shape than the model's values")
+            }
+            ImageFault::OutOfRange(line) => write!(f, "line {line} has a number out of its range"),
+            ImageFault::Order(line) => {
+                write!(
+                    f,
+                    "line {line} has an address that isn't above the one before"
+                )
+            }
+        }
+    }
 }
 
 impl From<NoMemory> for ImageFault {

@@ -4,22 +4,21 @@
 //!
 //! Proved: `print_image` gives exactly the one text of an image of the model, and that text reads
 //! back as the same image; `read_image` gives exactly the image that a text spells for the model,
-//! and that is an image of the model, or the first bad line with the first of its causes.
+//! and that is an image of the model, or the first bad line with the first of its causes; a fault
+//! names exactly its line and its cause's word.
 //!
-//! Only tested: that both calls succeed where there is memory.
+//! Not proved: that both calls succeed where there is memory.
 #![tactic(auto)]
 
 mod draft;
+mod entry;
 mod fault;
 mod image;
-mod judging;
 mod line;
-mod printing;
-mod reading;
-#[cfg(test)]
-mod tests;
+mod print;
+mod read;
 
 pub use fault::ImageFault;
 pub use image::{Image, ImageAccess};
-pub use printing::print_image;
-pub use reading::read_image;
+pub use print::print_image;
+pub use read::read_image;

@@ -1,10 +1,10 @@
 ghost use Rattle.std.specs.Prelude.{◌≡◌, IfOk, Option, Some, None, codes};
 ghost use Rattle.std.specs.Option.{option_and_then};
 ghost use Rattle.dt_lex.specs.Text.{tokens_of};
-ghost use Rattle.dt_image.specs.Lines.{numbers_of, pair_of, header_of, ended_of, access_of, two_of, spelled};
+ghost use Rattle.dt_image.specs.Line.{numbers_of, pair_of, access_of, two_of, spelled};
 
 use dt_bits::{NoMemory, Seq, Word as Stored};
-use dt_lex::{next_token, number};
+use dt_lex::{is_alone, is_nothing, next_token, number};
 use std::alloc::Global;
 
 /// A line of an image text.
@@ -24,7 +24,7 @@ pub enum Line {
     End,
 }
 
-#[tactic(auto, using(crate::proofs::Steps::numbers_start, crate::proofs::Steps::numbers_more, crate::proofs::Steps::numbers_stop, crate::proofs::Steps::numbers_end))]
+#[tactic(auto, using(crate::proofs::Numbers::numbers_start, crate::proofs::Numbers::numbers_more, crate::proofs::Numbers::numbers_stop, crate::proofs::Numbers::numbers_end))]
 fn numbers(alloc: Global, tokens: &[u8]) -> Result<Option<Seq<u128>>, NoMemory>
     ensures { IfOk result (λ found. found ≡ numbers_of (tokens_of tokens.now)) }
 {
@@ -42,7 +42,7 @@ fn numbers(alloc: Global, tokens: &[u8]) -> Result<Option<Seq<u128>>, NoMemory>
     Ok(Some(found))
 }
 
-#[tactic(auto, using(crate::proofs::Steps::two_at, crate::proofs::Steps::two_else))]
+#[tactic(auto, using(crate::proofs::Numbers::two_at, crate::proofs::Numbers::two_else))]
 fn two(numbers: &[u128]) -> Option<(u128, u128)>
     ensures { result ≡ two_of numbers.now }
 {
@@ -53,7 +53,7 @@ fn two(numbers: &[u128]) -> Option<(u128, u128)>
     }
 }
 
-#[tactic(auto, unfolding(crate::specs::Lines::pair_of))]
+#[tactic(auto, unfolding(crate::specs::Line::pair_of))]
 fn pair(alloc: Global, tokens: &[u8]) -> Result<Option<(u128, u128)>, NoMemory>
     ensures { IfOk result (λ found. found ≡ pair_of (tokens_of tokens.now)) }
 {
@@ -63,28 +63,7 @@ fn pair(alloc: Global, tokens: &[u8]) -> Result<Option<(u128, u128)>, NoMemory>
     }
 }
 
-fn header(tokens: &[u8]) -> Option<Line>
-    ensures { result ≡ header_of (tokens_of tokens.now) }
-{
-    let (token, after) = next_token(tokens)?;
-    if token == b"1".as_slice() && next_token(after).is_none() {
-        Some(Line::Header)
-    } else {
-        None
-    }
-}
-
-fn ended(tokens: &[u8]) -> Option<Line>
-    ensures { result ≡ ended_of (tokens_of tokens.now) }
-{
-    if next_token(tokens).is_none() {
-        Some(Line::End)
-    } else {
-        None
-    }
-}
-
-#[tactic(auto, unfolding(crate::specs::Lines::numbers_of))]
+#[tactic(auto, unfolding(crate::specs::Line::numbers_of))]
 fn access(alloc: Global, tokens: &[u8]) -> Result<Option<Line>, NoMemory>
     ensures { IfOk result (λ line. line ≡ option_and_then access_of (numbers_of (tokens_of tokens.now))) }
 {
@@ -101,12 +80,12 @@ fn access(alloc: Global, tokens: &[u8]) -> Result<Option<Line>, NoMemory>
 }
 
 /// The line that its first token and the tokens after it spell, and None where they spell none.
-#[tactic(auto, unfolding(crate::specs::Lines::spelled))]
+#[tactic(auto, unfolding(crate::specs::Line::spelled))]
 pub fn read_line(alloc: Global, first: &[u8], tokens: &[u8]) -> Result<Option<Line>, NoMemory>
     ensures { IfOk result (λ line. line ≡ spelled first.now (tokens_of tokens.now)) }
 {
     if first == b"image".as_slice() {
-        return Ok(header(tokens));
+        return Ok(is_alone(b"1", tokens).then_some(Line::Header));
     }
     if first == b"tables".as_slice() {
         return match pair(alloc, tokens)? {
@@ -130,7 +109,7 @@ pub fn read_line(alloc: Global, first: &[u8], tokens: &[u8]) -> Result<Option<Li
         };
     }
     if first == b"end".as_slice() {
-        return Ok(ended(tokens));
+        return Ok(is_nothing(tokens).then_some(Line::End));
     }
     Ok(None)
 }

@@ -1,8 +1,10 @@
 -- Words whose bits are what a table of backward says of each bit.
-use Rattle.std.proofs.Common.{◌≡◌, ℕ, ◌+◌, ◌-◌, ◌*◌, ◌/◌, ◌%◌, ◌^◌, ◌<◌, ◌≤◌, Bool, true, false, not, ◌&&◌, ◌||◌, cond, ltb, leb, bit_and, bit_or, bit_xor, None, is_some, refl, sym, ap, ◌∙◌, subst, ⊎_elim, lit≤, arith}
+use Rattle.std.proofs.Common.{◌≡◌, ℕ, ◌+◌, ◌-◌, ◌*◌, ◌/◌, ◌%◌, ◌^◌, ◌<◌, ◌≤◌, Bool, true, false, not, ◌&&◌, ◌||◌, cond, ltb, leb, bit_and, bit_or, bit_xor, None, is_some, refl, sym, ap, ◌∙◌, subst, lit≤, arith}
 use Rattle.std.proofs.Math.Nat.{pow-le-pow_right}
-use Rattle.std.proofs.lemmas.Bool.{cases_lt, ltb-true, ltb-false, le-leb, lt-leb, lt-ltb, le-ltb}
+use Rattle.std.proofs.lemmas.Bool.{ltb-true, ltb-false}
 use Rattle.std.proofs.lemmas.Nat.{pow_pos, and_le_l, or_lt, shl_whole, shl_below, shr_below, shr_le}
+use Rattle.dt_lemmas.proofs.Powers.{cut_fits}
+use Rattle.dt_lemmas.proofs.Numbers.{turn_le}
 use Rattle.dt_bits.specs.Bits.{bit, differs}
 use Rattle.dt_bits.specs.declared.value.Width.{Width}
 use Rattle.dt_bits.proofs.BitLemmas.{bit_of_and, bit_of_or, bit_of_xor, bit_of_ones, bit_of_shr, bit_of_shl, bit_of_zero, bit_above}
@@ -10,13 +12,13 @@ use Rattle.dt_known.specs.declared.Known.{Known}
 use Rattle.dt_known.specs.Known.{IsKnown, is_one, known_bit, from_bits}
 use Rattle.dt_known.specs.Backward.{and_back, or_back}
 use Rattle.dt_known.specs.Laws.Bits.{from_words, value_fits, mask_bit, value_bit}
-use Rattle.dt_known.proofs.Words.{words, told, within_bit, zeros_below}
-use Rattle.dt_known.proofs.MovedWords.{inside_mask, inside_value, cut_fits}
+use Rattle.dt_known.proofs.Words.{words, known_of, within_bit, zeros_below}
+use Rattle.dt_known.proofs.MovedWords.{inside_mask, inside_value}
 
-and_back_mask : (m v n u : Bool) → (v && m) ≡ v → (u && n) ≡ u → (v || (differs m v && u)) ≡ is_some (and_back (told m v) (told n u))
+and_back_mask : (m v n u : Bool) → (v && m) ≡ v → (u && n) ≡ u → (v || (differs m v && u)) ≡ is_some (and_back (known_of m v) (known_of n u))
 and_back_mask m v n u h k = grind arith
 
-and_back_value : (m v n u : Bool) → (v && m) ≡ v → v ≡ is_one (and_back (told m v) (told n u))
+and_back_value : (m v n u : Bool) → (v && m) ≡ v → v ≡ is_one (and_back (known_of m v) (known_of n u))
 and_back_value m v n u h = grind arith
 
 pub and_back_words : (r o : Known) → IsKnown r → IsKnown o → r.width ≡ o.width
@@ -26,10 +28,10 @@ and_back_words r o p q e = from_words r.width _ _ (λ i. and_back (known_bit r i
     (λ i l. simp (bit_of_or, bit_of_and, bit_of_xor) (and_back_mask (bit r.mask i) (bit r.value i) (bit o.mask i) (bit o.value i) (within_bit r i p) (within_bit o i q)))
     (λ i l. and_back_value (bit r.mask i) (bit r.value i) (bit o.mask i) (bit o.value i) (within_bit r i p))
 
-or_back_mask : (m v n u : Bool) → (v && m) ≡ v → (u && n) ≡ u → ((v && differs n u) || differs m v) ≡ is_some (or_back (told m v) (told n u))
+or_back_mask : (m v n u : Bool) → (v && m) ≡ v → (u && n) ≡ u → ((v && differs n u) || differs m v) ≡ is_some (or_back (known_of m v) (known_of n u))
 or_back_mask m v n u h k = grind arith
 
-or_back_value : (m v n u : Bool) → (v && m) ≡ v → (u && n) ≡ u → (v && differs n u) ≡ is_one (or_back (told m v) (told n u))
+or_back_value : (m v n u : Bool) → (v && m) ≡ v → (u && n) ≡ u → (v && differs n u) ≡ is_one (or_back (known_of m v) (known_of n u))
 or_back_value m v n u h k = grind arith
 
 pub or_back_words : (r o : Known) → IsKnown r → IsKnown o → r.width ≡ o.width
@@ -45,17 +47,11 @@ or_back_words r o p q e =
 -- ---- moved up
 
 -- bits of a word that is moved up by k, where nothing is known from n on
-moved_mask : (s t m v : Bool) → (s ≡ false → t ≡ true → m ≡ false) → cond s false m ≡ is_some (cond (not s && not t) (told m v) None)
+moved_mask : (s t m v : Bool) → (s ≡ false → t ≡ true → m ≡ false) → cond s false m ≡ is_some (cond (not s && not t) (known_of m v) None)
 moved_mask s t m v h = grind arith
 
-moved_value : (s t m v : Bool) → (v && m) ≡ v → (s ≡ false → t ≡ true → m ≡ false) → cond s false v ≡ is_one (cond (not s && not t) (told m v) None)
+moved_value : (s t m v : Bool) → (v && m) ≡ v → (s ≡ false → t ≡ true → m ≡ false) → cond s false v ≡ is_one (cond (not s && not t) (known_of m v) None)
 moved_value s t m v h k = grind arith
-
-pub turn_le : (a b : ℕ) → leb a b ≡ not (ltb b a)
-turn_le a b = ⊎_elim
-    (λ (l : b < a). lt-leb a b l ∙ ap not (sym (lt-ltb b a l)))
-    (λ (l : a ≤ b). le-leb a b l ∙ ap not (sym (le-ltb b a l)))
-    (cases_lt b a)
 
 pub slice_back_words : (r : Known) (hi lo : ℕ) (w : Width) → IsKnown r → lo ≤ hi → hi < w.0 → w.0 ≤ 128 → r.width.0 ≡ hi - lo + 1
     → words (r.mask * 2 ^ lo % 2 ^ 128) (r.value * 2 ^ lo % 2 ^ 128) w ≡ from_bits w (λ i. cond (leb lo i && leb i hi) (known_bit r (i - lo)) None)
@@ -77,10 +73,10 @@ slice_back_words r hi lo w p l h k e =
     ∙ moved_value (ltb i lo) (ltb hi i) (bit r.mask (i - lo)) (bit r.value (i - lo)) (within_bit r (i - lo) p) (none i)
     ∙ ap (λ t. is_one (cond t (known_bit r (i - lo)) None)) (sym (test i)))
 
-shifted_mask : (s t m v : Bool) → t ≡ true → (cond s false m && t) ≡ is_some (cond (not s) (told m v) None)
+shifted_mask : (s t m v : Bool) → t ≡ true → (cond s false m && t) ≡ is_some (cond (not s) (known_of m v) None)
 shifted_mask s t m v e = grind arith
 
-shifted_value : (s t m v : Bool) → (v && m) ≡ v → t ≡ true → (cond s false v && t) ≡ is_one (cond (not s) (told m v) None)
+shifted_value : (s t m v : Bool) → (v && m) ≡ v → t ≡ true → (cond s false v && t) ≡ is_one (cond (not s) (known_of m v) None)
 shifted_value s t m v h e = grind arith
 
 pub shr_back_words : (r : Known) (k : ℕ) → IsKnown r
@@ -112,10 +108,10 @@ low_words r w p = from_words w _ _ (known_bit r) (cut_fits r.mask w.0) (cut_fits
     (λ i l. bit_of_and r.mask (2 ^ w.0 - 1) i ∙ inside_mask (bit r.mask i) (bit r.value i) _ (bit_of_ones w.0 i l))
     (λ i l. bit_of_and r.value (2 ^ w.0 - 1) i ∙ inside_value (bit r.mask i) (bit r.value i) _ (within_bit r i p) (bit_of_ones w.0 i l))
 
-within_mask : (t m v : Bool) → (t ≡ false → m ≡ false) → m ≡ is_some (cond t (told m v) None)
+within_mask : (t m v : Bool) → (t ≡ false → m ≡ false) → m ≡ is_some (cond t (known_of m v) None)
 within_mask t m v h = grind arith
 
-within_value : (t m v : Bool) → (v && m) ≡ v → (t ≡ false → m ≡ false) → v ≡ is_one (cond t (told m v) None)
+within_value : (t m v : Bool) → (v && m) ≡ v → (t ≡ false → m ≡ false) → v ≡ is_one (cond t (known_of m v) None)
 within_value t m v h k = grind arith
 
 pub shl_back_words : (r : Known) (k : ℕ) → IsKnown r

@@ -6,3 +6,4 @@ pub mod BackWords
 pub mod SignWords
 pub mod TestWords
 pub mod Places
+pub mod Within

@@ -1,24 +1,21 @@
 -- Words whose bits are what a table says of each bit: the tables that move bits.
-use Rattle.std.proofs.Common.{◌≡◌, ℕ, ◌+◌, ◌-◌, ◌*◌, ◌/◌, ◌%◌, ◌^◌, ◌<◌, ◌≤◌, Bool, true, false, ◌&&◌, ◌||◌, cond, ltb, bit_and, bit_or, bit_xor, Some, is_some, min, refl, sym, ap, ◌∙◌, subst, ⊎_elim, lit≤, arith}
-use Rattle.std.proofs.Math.Nat.{pow-le-pow_right}
-use Rattle.std.proofs.lemmas.Bool.{cases_lt, le-ltb, ltb-false}
-use Rattle.std.proofs.lemmas.Nat.{pow_pos, and_le_r, or_lt, xor_lt, or_shifted, shl_whole, shr_le, mul-add-lt, pow-add}
+use Rattle.std.proofs.Common.{◌≡◌, ℕ, ◌+◌, ◌-◌, ◌*◌, ◌/◌, ◌%◌, ◌^◌, ◌<◌, ◌≤◌, Bool, true, false, ◌&&◌, ◌||◌, cond, ltb, bit_and, bit_or, bit_xor, Some, is_some, min, refl, sym, ap, ◌∙◌, arith}
+use Rattle.std.proofs.lemmas.Bool.{le-ltb, ltb-false}
+use Rattle.std.proofs.lemmas.Nat.{pow_pos, or_lt, xor_lt, shr_le}
+use Rattle.dt_lemmas.proofs.Powers.{joined_words, joined_words_fit, cut_fits}
+use Rattle.dt_lemmas.proofs.Numbers.{low_or_top}
 use Rattle.dt_bits.specs.Bits.{bit, width, differs}
 use Rattle.dt_bits.proofs.BitLemmas.{bit_of_and, bit_of_or, bit_of_xor, bit_of_ones, bit_of_ones_at, bit_of_shr, bit_of_shl, bit_of_joined, bit_above}
 use Rattle.dt_known.specs.declared.Known.{Known}
 use Rattle.dt_known.specs.Known.{IsKnown, is_one, known_bit, from_bits}
 use Rattle.dt_known.specs.Laws.Bits.{from_words, value_fits, mask_bit, value_bit}
-use Rattle.dt_known.proofs.Words.{words, told, within_bit}
+use Rattle.dt_known.proofs.Words.{words, known_of, within_bit}
 
-pub inside_mask : (m v t : Bool) → t ≡ true → (m && t) ≡ is_some (told m v)
+pub inside_mask : (m v t : Bool) → t ≡ true → (m && t) ≡ is_some (known_of m v)
 inside_mask m v t e = grind arith
 
-pub inside_value : (m v t : Bool) → (v && m) ≡ v → t ≡ true → (v && t) ≡ is_one (told m v)
+pub inside_value : (m v t : Bool) → (v && m) ≡ v → t ≡ true → (v && t) ≡ is_one (known_of m v)
 inside_value m v t h e = grind arith
-
--- a word cut to the bits of a width
-pub cut_fits : (n w : ℕ) → bit_and n (2 ^ w - 1) < 2 ^ w
-cut_fits n w = omega (arith, and_le_r n (2 ^ w - 1), pow_pos w)
 
 pub slice_words : (a : Known) (hi lo : ℕ) → IsKnown a
     → words (bit_and (a.mask / 2 ^ lo) (2 ^ (hi - lo + 1) - 1)) (bit_and (a.value / 2 ^ lo) (2 ^ (hi - lo + 1) - 1)) (width (hi - lo + 1))
@@ -27,21 +24,15 @@ slice_words a hi lo p = from_words (width (hi - lo + 1)) _ _ (λ i. known_bit a 
     (λ i l. simp (bit_of_and, bit_of_shr) (inside_mask (bit a.mask (lo + i)) (bit a.value (lo + i)) _ (bit_of_ones (hi - lo + 1) i l)))
     (λ i l. simp (bit_of_and, bit_of_shr) (inside_value (bit a.mask (lo + i)) (bit a.value (lo + i)) _ (within_bit a (lo + i) p) (bit_of_ones (hi - lo + 1) i l)))
 
--- ---- joined
-
-joined : (x v y w : ℕ) → x < 2 ^ v → y < 2 ^ w → v + w ≤ 128 → bit_or (x * 2 ^ w % 2 ^ 128) y ≡ x * 2 ^ w + y
-joined x v y w h k l = ap (λ n. bit_or n y) (shl_whole x v w 128 h l) ∙ or_shifted x w y k
-
-joined_fits : (x v y w : ℕ) → x < 2 ^ v → y < 2 ^ w → v + w ≤ 128 → bit_or (x * 2 ^ w % 2 ^ 128) y < 2 ^ (v + w)
-joined_fits x v y w h k l = subst (λ n. n < 2 ^ (v + w)) (sym (joined x v y w h k l)) (omega (arith, mul-add-lt x (2 ^ w) y (2 ^ v) h k, pow-add 2 v w))
+-- ---- joined_words
 
 joined_bit : (x v y w i : ℕ) → x < 2 ^ v → y < 2 ^ w → v + w ≤ 128 → bit (bit_or (x * 2 ^ w % 2 ^ 128) y) i ≡ cond (ltb i w) (bit y i) (bit x (i - w))
-joined_bit x v y w i h k l = ap (λ n. bit n i) (joined x v y w h k l) ∙ bit_of_joined x w y i k
+joined_bit x v y w i h k l = ap (λ n. bit n i) (joined_words x v y w h k l) ∙ bit_of_joined x w y i k
 
-choice_mask : (t m v n u : Bool) → cond t n m ≡ is_some (cond t (told n u) (told m v))
+choice_mask : (t m v n u : Bool) → cond t n m ≡ is_some (cond t (known_of n u) (known_of m v))
 choice_mask t m v n u = grind arith
 
-choice_value : (t m v n u : Bool) → (v && m) ≡ v → (u && n) ≡ u → cond t u v ≡ is_one (cond t (told n u) (told m v))
+choice_value : (t m v n u : Bool) → (v && m) ≡ v → (u && n) ≡ u → cond t u v ≡ is_one (cond t (known_of n u) (known_of m v))
 choice_value t m v n u h k = grind arith
 
 pub concat_words : (a b : Known) → IsKnown a → IsKnown b → a.width.0 + b.width.0 ≤ 128
@@ -51,17 +42,17 @@ concat_words a b p q l =
     let v = a.width.0 in
     let w = b.width.0 in
     from_words (width (v + w)) _ _ (λ i. cond (ltb i w) (known_bit b i) (known_bit a (i - w)))
-    (joined_fits a.mask v b.mask w p.mask_fits q.mask_fits l) (joined_fits a.value v b.value w (value_fits a p) (value_fits b q) l)
+    (joined_words_fit a.mask v b.mask w p.mask_fits q.mask_fits l) (joined_words_fit a.value v b.value w (value_fits a p) (value_fits b q) l)
     (λ i _. joined_bit a.mask v b.mask w i p.mask_fits q.mask_fits l ∙ choice_mask (ltb i w) (bit a.mask (i - w)) (bit a.value (i - w)) (bit b.mask i) (bit b.value i))
     (λ i _. joined_bit a.value v b.value w i (value_fits a p) (value_fits b q) l
     ∙ choice_value (ltb i w) (bit a.mask (i - w)) (bit a.value (i - w)) (bit b.mask i) (bit b.value i) (within_bit a (i - w) p) (within_bit b i q))
 
 -- ---- shifted
 
-shl_mask : (t m v s : Bool) → s ≡ true → ((cond t false m || t) && s) ≡ is_some (cond t (Some false) (told m v))
+shl_mask : (t m v s : Bool) → s ≡ true → ((cond t false m || t) && s) ≡ is_some (cond t (Some false) (known_of m v))
 shl_mask t m v s e = grind arith
 
-shl_value : (t m v s : Bool) → (v && m) ≡ v → s ≡ true → (cond t false v && s) ≡ is_one (cond t (Some false) (told m v))
+shl_value : (t m v s : Bool) → (v && m) ≡ v → s ≡ true → (cond t false v && s) ≡ is_one (cond t (Some false) (known_of m v))
 shl_value t m v s h e = grind arith
 
 pub shl_words : (a : Known) (k : ℕ) → IsKnown a
@@ -80,10 +71,10 @@ shl_words a k p =
     bit_of_and v (2 ^ w - 1) i ∙ ap (λ b. b && bit (2 ^ w - 1) i) s
     ∙ shl_value (ltb i k) (bit a.mask (i - k)) (bit a.value (i - k)) (bit (2 ^ w - 1) i) (within_bit a (i - k) p) (bit_of_ones w i l))
 
-shr_mask : (t m v s : Bool) → s ≡ true → (m || differs s t) ≡ is_some (cond t (told m v) (Some false))
+shr_mask : (t m v s : Bool) → s ≡ true → (m || differs s t) ≡ is_some (cond t (known_of m v) (Some false))
 shr_mask t m v s e = grind arith
 
-shr_value : (t m v : Bool) → (v && m) ≡ v → (t ≡ false → v ≡ false) → v ≡ is_one (cond t (told m v) (Some false))
+shr_value : (t m v : Bool) → (v && m) ≡ v → (t ≡ false → v ≡ false) → v ≡ is_one (cond t (known_of m v) (Some false))
 shr_value t m v h e = grind arith
 
 pub shr_words : (a : Known) (k : ℕ) → IsKnown a
@@ -103,20 +94,6 @@ shr_words a k p =
     (λ e. bit_above a.value w (k + i) (value_fits a p) (ltb-false (k + i) w e)))
 
 -- ---- the sign
-
-pub spread_fits : (n w to : ℕ) → n < 2 ^ w → w ≤ to → bit_or n (bit_xor (2 ^ to - 1) (2 ^ w - 1)) < 2 ^ to
-spread_fits n w to h l =
-    let m : 2 ^ w ≤ 2 ^ to = pow-le-pow_right (lit≤ tt) l in
-    or_lt to n _ (omega arith) (xor_lt to (2 ^ to - 1) (2 ^ w - 1) (omega (arith, pow_pos to)) (omega (arith, pow_pos to)))
-
-pub narrow_fits : (n w to : ℕ) → n < 2 ^ w → w ≤ to → n < 2 ^ to
-narrow_fits n w to h l = let m : 2 ^ w ≤ 2 ^ to = pow-le-pow_right (lit≤ tt) l in omega arith
-
-low_or_top : (P : ℕ → Type 0) (w i : ℕ) → (i < w → P i) → (w ≤ i → P (w - 1)) → P (min i (w - 1))
-low_or_top P w i h k = ⊎_elim
-    (λ (l : i < w). let e : min i (w - 1) ≡ i = omega arith in subst P (sym e) (h l))
-    (λ (l : w ≤ i). let e : min i (w - 1) ≡ w - 1 = omega arith in subst P (sym e) (k l))
-    (cases_lt i w)
 
 spread_low : (b s t : Bool) → s ≡ true → t ≡ true → (b || differs s t) ≡ b
 spread_low b s t e d = grind arith

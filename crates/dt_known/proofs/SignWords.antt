@@ -1,23 +1,23 @@
 -- Words whose bits are what the table of SignExt says of its operand.
-use Rattle.std.proofs.Common.{◌≡◌, ℕ, ◌-◌, ◌*◌, ◌%◌, ◌^◌, ◌<◌, ◌≤◌, Bool, true, false, not, ◌&&◌, ◌||◌, cond, eqb, ltb, leb, bit_and, bit_or, bit_xor, Option, Some, None, is_some, refl, sym, ap, ◌∙◌, ⊎_elim, arith}
-use Rattle.std.proofs.lemmas.Bool.{cases_eq, cond_both, cond-false, eqb-true, eq-eqb, ne_eqb, lt-ltb, le-ltb}
+use Rattle.std.proofs.Common.{◌≡◌, ℕ, ◌-◌, ◌*◌, ◌%◌, ◌^◌, ◌<◌, Bool, true, false, not, ◌&&◌, ◌||◌, cond, eqb, ltb, leb, bit_and, bit_or, bit_xor, Option, Some, None, is_some, refl, sym, ap, ◌∙◌, arith}
+use Rattle.std.proofs.lemmas.Bool.{cond_both, cond-false, eqb-true}
 use Rattle.std.proofs.lemmas.Nat.{pow_pos, pow_below, and_le_l, and_le_r, or_lt, one_shl}
+use Rattle.dt_lemmas.proofs.Numbers.{below_or_at, turn_le}
 use Rattle.dt_bits.specs.Bits.{IsWidth, bit, differs}
 use Rattle.dt_bits.specs.declared.value.Width.{Width}
-use Rattle.dt_bits.proofs.BitLemmas.{bit_of_and, bit_of_or, bit_of_xor, bit_of_ones, bit_of_ones_at, bit_of_pow, bit_of_zero, word_tells}
+use Rattle.dt_bits.proofs.BitLemmas.{bit_of_and, bit_of_or, bit_of_xor, bit_of_ones, bit_of_ones_at, word_tells, bit_of_choice}
 use Rattle.dt_known.specs.declared.Known.{Known}
 use Rattle.dt_known.specs.Known.{IsKnown, is_one, is_zero, known_bit, from_bits, nothing}
 use Rattle.dt_known.specs.Backward.{some_one_from, some_zero_from, top_bit}
 use Rattle.dt_known.specs.Laws.Bits.{from_words, value_fits}
-use Rattle.dt_known.proofs.Words.{words, told, within_bit, zeros_below}
-use Rattle.dt_known.proofs.BackWords.{turn_le}
+use Rattle.dt_known.proofs.Words.{words, known_of, within_bit, zeros_below}
 
 -- ---- some bit from k on
 
-above_one : (s t m v : Bool) → (v && m) ≡ v → s ≡ true → (v && differs s t) ≡ (not t && is_one (told m v))
+above_one : (s t m v : Bool) → (v && m) ≡ v → s ≡ true → (v && differs s t) ≡ (not t && is_one (known_of m v))
 above_one s t m v h e = grind arith
 
-above_zero : (s t m v : Bool) → (v && m) ≡ v → s ≡ true → (differs m v && differs s t) ≡ (not t && is_zero (told m v))
+above_zero : (s t m v : Bool) → (v && m) ≡ v → s ≡ true → (differs m v && differs s t) ≡ (not t && is_zero (known_of m v))
 above_zero s t m v h e = grind arith
 
 above_bit : (w k i : ℕ) → bit (bit_xor (2 ^ w - 1) (2 ^ k - 1)) i ≡ differs (bit (2 ^ w - 1) i) (ltb i k)
@@ -44,24 +44,11 @@ zero_from r k p =
 
 -- ---- the operand
 
-sign_mask : (e l m v t : Bool) (o : Option Bool) → l ≡ not e → (e ≡ true → t ≡ is_some o) → ((m && l) || (t && e)) ≡ is_some (cond e o (told m v))
+sign_mask : (e l m v t : Bool) (o : Option Bool) → l ≡ not e → (e ≡ true → t ≡ is_some o) → ((m && l) || (t && e)) ≡ is_some (cond e o (known_of m v))
 sign_mask e l m v t o h k = grind arith
 
-sign_value : (e l m v t : Bool) (o : Option Bool) → (v && m) ≡ v → l ≡ not e → (e ≡ true → t ≡ is_one o) → ((v && l) || (t && e)) ≡ is_one (cond e o (told m v))
+sign_value : (e l m v t : Bool) (o : Option Bool) → (v && m) ≡ v → l ≡ not e → (e ≡ true → t ≡ is_one o) → ((v && l) || (t && e)) ≡ is_one (cond e o (known_of m v))
 sign_value e l m v t o g h k = grind arith
-
-below_or_at : (i k : ℕ) → i ≤ k → ltb i k ≡ not (eqb i k)
-below_or_at i k h = ⊎_elim
-    (λ (e : i ≡ k). le-ltb i k (omega arith) ∙ ap not (sym (eq-eqb i k e)))
-    (λ (e : i ≡ k → ⊥). lt-ltb i k (below_from_ne i k h e) ∙ ap not (sym (ne_eqb i k e)))
-    (cases_eq i k)
-  where
-    below_from_ne : (i k : ℕ) → i ≤ k → (i ≡ k → ⊥) → i < k
-    below_from_ne i k h e = omega arith
-
-bit_where : (t : Bool) (k i : ℕ) → bit (cond t (2 ^ k) 0) i ≡ (t && eqb i k)
-bit_where true k i = bit_of_pow k i
-bit_where false k i = bit_of_zero i
 
 some_top : (o z : Bool) → (o || z) ≡ is_some (cond o (Some true) (cond z (Some false) None))
 some_top o z = grind arith
@@ -80,7 +67,7 @@ topped_fits n k w t h = or_lt w _ _ (omega (arith, and_le_r n (2 ^ k - 1), pow_b
 topped_bit : (n k i : ℕ) (t : Bool) → bit (topped n k t (2 ^ k)) i ≡ ((bit n i && ltb i k) || (t && eqb i k))
 topped_bit n k i t = bit_of_or (bit_and n (2 ^ k - 1)) (cond t (2 ^ k) 0) i
     ∙ ap (λ b. b || bit (cond t (2 ^ k) 0) i) (bit_of_and n (2 ^ k - 1) i ∙ ap (λ b. bit n i && b) (bit_of_ones_at k i))
-    ∙ ap (λ b. (bit n i && ltb i k) || b) (bit_where t k i)
+    ∙ ap (λ b. (bit n i && ltb i k) || b) (bit_of_choice t k i)
 
 sign_word : (r : Known) (w : Width) → IsKnown r → IsWidth w.0
     → (let k = w.0 - 1 in words (topped r.mask k (some_one_from k r || some_zero_from k r) (2 ^ k)) (topped r.value k (some_one_from k r) (2 ^ k)) w)

@@ -1,7 +1,7 @@
 -- A sum of whole words: the least and the greatest sum tell which carries are known.
 use Rattle.std.proofs.Common.{◌≡◌, ℕ, zero, suc, ◌+◌, ◌-◌, ◌%◌, ◌^◌, ◌<◌, ◌≤◌, Bool, true, false, not, ◌&&◌, ◌||◌, cond, bit_and, bit_or, bit_xor, Option, is_some, refl, sym, ap, ◌∙◌, subst, arith}
-use Rattle.std.proofs.Math.Nat.{mod-add-mod}
 use Rattle.std.proofs.lemmas.Nat.{and_le_l, and_le_r, xor_lt, mod_below, pow_pos}
+use Rattle.dt_lemmas.proofs.Moduli.{add_thrice}
 use Rattle.dt_bits.specs.Bits.{bit, number_of, differs, majority, carry_at}
 use Rattle.dt_bits.specs.declared.value.Width.{Width}
 use Rattle.dt_bits.proofs.BitLemmas.{bit_of_and, bit_of_or, bit_of_xor, bit_of_mod, bit_of_complement, bit_of_number, number_of_below}
@@ -10,7 +10,7 @@ use Rattle.dt_known.specs.declared.Known.{Known}
 use Rattle.dt_known.specs.Known.{IsKnown, is_one, is_zero, known_bit, from_bits}
 use Rattle.dt_known.specs.Forward.{not_bit, sum_bit, carry_bit, carry_into, sum_at, difference_at}
 use Rattle.dt_known.specs.Laws.Bits.{from_words, mask_bit, value_bit, bit_from_bits, known_is_from_bits}
-use Rattle.dt_known.proofs.Words.{words, told, within_bit, turned}
+use Rattle.dt_known.proofs.Words.{words, known_of, within_bit, turned}
 
 -- ---- the carries
 
@@ -44,16 +44,12 @@ high_carry c f g x y w (suc i) s t l =
 
 -- ---- the sums
 
--- a sum of three words of 128 bits, in two steps
-add_thrice : (x y c : ℕ) → ((x + y) % 2 ^ 128 + c) % 2 ^ 128 ≡ (x + y + c) % 2 ^ 128
-add_thrice x y c = mod-add-mod (x + y) (2 ^ 128) c
-
 sum_word : (c : Bool) (x y w i : ℕ) → i < w → w ≤ 128
     → bit (((x + y) % 2 ^ 128 + cond c 1 0) % 2 ^ 128) i ≡ differs (differs (bit x i) (bit y i)) (carry_at c x y i)
 sum_word c x y w i l h = ap (λ n. bit n i) (add_thrice x y (cond c 1 0)) ∙ bit_of_mod (x + y + cond c 1 0) 128 i (omega arith) ∙ bit_of_sum c x y i
 
 -- the word of a with its unknown bits 1
-high_bit : (m v : Bool) → (v && m) ≡ v → (v || not m) ≡ not (is_zero (told m v))
+high_bit : (m v : Bool) → (v && m) ≡ v → (v || not m) ≡ not (is_zero (known_of m v))
 high_bit m v h = grind arith
 
 high_word : (a : Known) (i : ℕ) → IsKnown a → i < a.width.0 → bit (bit_or a.value (2 ^ 128 - 1 - a.mask)) i ≡ not (is_zero (known_bit a i))

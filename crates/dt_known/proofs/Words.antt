@@ -1,12 +1,12 @@
 -- Words whose bits are what a table says of each bit: the tables that go bit by bit, and tests of whole words.
-use Rattle.std.proofs.Common.{◌≡◌, ℕ, ◌-◌, ◌*◌, ◌%◌, ◌^◌, ◌<◌, ◌≤◌, Bool, true, false, not, ◌&&◌, ◌||◌, cond, eqb, bit_and, bit_or, bit_xor, Option, Some, None, is_some, refl, sym, ap, ◌∙◌, subst, ⊎_elim, lit≤, arith}
+use Rattle.std.proofs.Common.{◌≡◌, ℕ, ◌-◌, ◌*◌, ◌%◌, ◌^◌, ◌<◌, ◌≤◌, Bool, true, false, not, ◌&&◌, ◌||◌, cond, eqb, bit_and, bit_or, bit_xor, Option, Some, None, is_some, refl, sym, ap, ◌∙◌, subst, ⊎_elim, arith}
 use Rattle.std.proofs.lemmas.Bool.{cond_both, cases_Bool, eqb-true, eq-eqb, not-true, not-false, false_from_ne_true, false≢true}
-use Rattle.std.proofs.Math.Nat.{pow-le-pow_right}
 use Rattle.std.proofs.lemmas.Nat.{one_shl, pow_pos, pow_below, and_le_l, and_le_r, or_lt, xor_lt}
+use Rattle.dt_lemmas.proofs.Powers.{wide}
 use Rattle.dt_bits.specs.Bits.{IsWidth, IsValue, bit, differs}
 use Rattle.dt_bits.specs.declared.value.Bv.{Bv}
 use Rattle.dt_bits.specs.declared.value.Width.{Width}
-use Rattle.dt_bits.proofs.BitLemmas.{same_bits, bit_of_and, bit_of_or, bit_of_xor, bit_of_ones, bit_of_zero, bit_of_pow, bit_of_complement, word_tells}
+use Rattle.dt_bits.proofs.BitLemmas.{same_bits, bit_of_and, bit_of_or, bit_of_xor, bit_of_ones, bit_of_pow, bit_of_complement, word_tells, bit_of_choice}
 use Rattle.dt_bits.proofs.Below.{none_below, none_below_from}
 use Rattle.dt_known.specs.declared.Known.{Known}
 use Rattle.dt_known.specs.Known.{IsKnown, is_one, known_bit, from_bits, either, clash, are_apart, all_known, single_bit}
@@ -32,19 +32,19 @@ pub zeros_below : (a b : Known) → IsKnown b → a.width ≡ b.width → bit_xo
 zeros_below a b q e = xor_lt a.width.0 b.mask b.value (mask_below a b q e) (value_below a b q e)
 
 -- what is known, by the bit of the mask and of the value
-abbrev pub told : Bool → Bool → Option Bool
-told m v = cond m (Some v) None
+abbrev pub known_of : Bool → Bool → Option Bool
+known_of m v = cond m (Some v) None
 
-not_mask : (m v : Bool) → m ≡ is_some (not_bit (told m v))
+not_mask : (m v : Bool) → m ≡ is_some (not_bit (known_of m v))
 not_mask m v = grind arith
 
-not_value : (m v : Bool) → (v && m) ≡ v → differs m v ≡ is_one (not_bit (told m v))
+not_value : (m v : Bool) → (v && m) ≡ v → differs m v ≡ is_one (not_bit (known_of m v))
 not_value m v h = grind arith
 
-and_mask : (m v n u : Bool) → (v && m) ≡ v → (u && n) ≡ u → ((v && u || differs m v) || differs n u) ≡ is_some (and_bit (told m v) (told n u))
+and_mask : (m v n u : Bool) → (v && m) ≡ v → (u && n) ≡ u → ((v && u || differs m v) || differs n u) ≡ is_some (and_bit (known_of m v) (known_of n u))
 and_mask m v n u h k = grind arith
 
-and_value : (m v n u : Bool) → (v && m) ≡ v → (u && n) ≡ u → (v && u) ≡ is_one (and_bit (told m v) (told n u))
+and_value : (m v n u : Bool) → (v && m) ≡ v → (u && n) ≡ u → (v && u) ≡ is_one (and_bit (known_of m v) (known_of n u))
 and_value m v n u h k = grind arith
 
 pub not_words : (a : Known) → IsKnown a → words a.mask (bit_xor a.mask a.value) a.width ≡ from_bits a.width (λ i. not_bit (known_bit a i))
@@ -62,10 +62,10 @@ and_words a b p q e =
     (λ i l. simp (bit_of_or, bit_of_and, bit_of_xor) (and_mask (bit a.mask i) (bit a.value i) (bit b.mask i) (bit b.value i) (within_bit a i p) (within_bit b i q)))
     (λ i l. simp (bit_of_or, bit_of_and, bit_of_xor) (and_value (bit a.mask i) (bit a.value i) (bit b.mask i) (bit b.value i) (within_bit a i p) (within_bit b i q)))
 
-or_mask : (m v n u : Bool) → (v && m) ≡ v → (u && n) ≡ u → ((v || u) || (differs m v && differs n u)) ≡ is_some (or_bit (told m v) (told n u))
+or_mask : (m v n u : Bool) → (v && m) ≡ v → (u && n) ≡ u → ((v || u) || (differs m v && differs n u)) ≡ is_some (or_bit (known_of m v) (known_of n u))
 or_mask m v n u h k = grind arith
 
-or_value : (m v n u : Bool) → (v && m) ≡ v → (u && n) ≡ u → (v || u) ≡ is_one (or_bit (told m v) (told n u))
+or_value : (m v n u : Bool) → (v && m) ≡ v → (u && n) ≡ u → (v || u) ≡ is_one (or_bit (known_of m v) (known_of n u))
 or_value m v n u h k = grind arith
 
 pub or_words : (a b : Known) → IsKnown a → IsKnown b → a.width ≡ b.width
@@ -78,10 +78,10 @@ or_words a b p q e =
     (λ i l. simp (bit_of_or, bit_of_and, bit_of_xor) (or_mask (bit a.mask i) (bit a.value i) (bit b.mask i) (bit b.value i) (within_bit a i p) (within_bit b i q)))
     (λ i l. simp (bit_of_or, bit_of_and, bit_of_xor) (or_value (bit a.mask i) (bit a.value i) (bit b.mask i) (bit b.value i) (within_bit a i p) (within_bit b i q)))
 
-xor_mask : (m v n u : Bool) → (m && n) ≡ is_some (xor_bit (told m v) (told n u))
+xor_mask : (m v n u : Bool) → (m && n) ≡ is_some (xor_bit (known_of m v) (known_of n u))
 xor_mask m v n u = grind arith
 
-xor_value : (m v n u : Bool) → (differs v u && (m && n)) ≡ is_one (xor_bit (told m v) (told n u))
+xor_value : (m v n u : Bool) → (differs v u && (m && n)) ≡ is_one (xor_bit (known_of m v) (known_of n u))
 xor_value m v n u = grind arith
 
 -- a mask of bits that a knows
@@ -95,15 +95,11 @@ xor_words a b p q e = from_words a.width _ _ _ (both_below a b.mask p) (omega (a
     (λ i l. simp bit_of_and (xor_mask (bit a.mask i) (bit a.value i) (bit b.mask i) (bit b.value i)))
     (λ i l. simp (bit_of_and, bit_of_xor) (xor_value (bit a.mask i) (bit a.value i) (bit b.mask i) (bit b.value i)))
 
-common_mask : (m v n u : Bool) → ((m && n) && not (differs v u)) ≡ is_some (common (told m v) (told n u))
+common_mask : (m v n u : Bool) → ((m && n) && not (differs v u)) ≡ is_some (common (known_of m v) (known_of n u))
 common_mask m v n u = grind arith
 
-common_value : (m v n u : Bool) → (v && ((m && n) && not (differs v u))) ≡ is_one (common (told m v) (told n u))
+common_value : (m v n u : Bool) → (v && ((m && n) && not (differs v u))) ≡ is_one (common (known_of m v) (known_of n u))
 common_value m v n u = grind arith
-
--- a number of at most 128 bits
-pub wide : (w n : ℕ) → w ≤ 128 → n < 2 ^ w → n < 2 ^ 128
-wide w n l h = let m : 2 ^ w ≤ 2 ^ 128 = pow-le-pow_right (lit≤ tt) l in omega arith
 
 -- its bits, turned in a word of 128
 pub turned : (n i w : ℕ) → w ≤ 128 → n < 2 ^ w → i < w → bit (2 ^ 128 - 1 - n) i ≡ not (bit n i)
@@ -124,10 +120,10 @@ const_words v h = from_words v.width _ _ (λ i. Some (bit v.bits i)) (omega (ari
 
 -- ---- meets
 
-either_mask : (m v n u : Bool) → (m || n) ≡ is_some (either (told m v) (told n u))
+either_mask : (m v n u : Bool) → (m || n) ≡ is_some (either (known_of m v) (known_of n u))
 either_mask m v n u = grind arith
 
-either_value : (m v n u : Bool) → (v && m) ≡ v → (u && n) ≡ u → clash (told m v) (told n u) ≡ false → (v || u) ≡ is_one (either (told m v) (told n u))
+either_value : (m v n u : Bool) → (v && m) ≡ v → (u && n) ≡ u → clash (known_of m v) (known_of n u) ≡ false → (v || u) ≡ is_one (either (known_of m v) (known_of n u))
 either_value m v n u h k e = grind arith
 
 pub meet_words : (a b : Known) → IsKnown a → IsKnown b → a.width ≡ b.width → are_apart a b ≡ false
@@ -140,15 +136,11 @@ meet_words a b p q e h = from_words a.width _ _ _
 
 -- ---- one bit
 
-one_bit : (t v : Bool) → t ≡ is_some (told t v)
+one_bit : (t v : Bool) → t ≡ is_some (known_of t v)
 one_bit t v = grind arith
 
-value_one_bit : (t v : Bool) → (v && t) ≡ is_one (told t v)
+value_one_bit : (t v : Bool) → (v && t) ≡ is_one (known_of t v)
 value_one_bit t v = grind arith
-
-bit_of_choice : (v : Bool) (i j : ℕ) → bit (cond v (2 ^ i) 0) j ≡ (v && eqb j i)
-bit_of_choice true i j = bit_of_pow i j
-bit_of_choice false i j = bit_of_zero j
 
 single_word : (w : Width) (i : ℕ) (v : Bool) → i < w.0 → words (2 ^ i) (cond v (2 ^ i) 0) w ≡ single_bit w i v
 single_word w i v l = from_words w (2 ^ i) (cond v (2 ^ i) 0) (λ j. cond (eqb j i) (Some v) None) (pow_below i w.0 l)
@@ -167,7 +159,7 @@ own_words a p = from_words a.width a.mask a.value (known_bit a) p.mask_fits (val
 
 -- ---- tests
 
-clash_bit : (m v n u : Bool) → (v && m) ≡ v → (u && n) ≡ u → (differs v u && (m && n)) ≡ clash (told m v) (told n u)
+clash_bit : (m v n u : Bool) → (v && m) ≡ v → (u && n) ≡ u → (differs v u && (m && n)) ≡ clash (known_of m v) (known_of n u)
 clash_bit m v n u h k = grind arith
 
 -- the word of the bits in which two Knowns clash

@@ -1,7 +1,7 @@
 -- What is known of each bit of an operator's result, from what is known of the operands.
 use Rattle.std.specs.Prelude.{ℕ, zero, suc, ◌-◌, ◌+◌, ◌^◌, Bool, true, false, not, ◌&&◌, ◌||◌, nat_lt, nat_le, if◌then◌else◌, Option, Some, None, min}
 use Rattle.dt_bits.specs.Bits.{bit, width, differs, majority}
-use Rattle.dt_bits.specs.Ops.{arity_of, width_of}
+use Rattle.dt_bits.specs.Ops.{some_used, width_of}
 use Rattle.dt_bits.specs.declared.op.Op.{Op}
 use Rattle.dt_bits.specs.declared.op.Op.TheVariants.{Const, Not, And, Or, Xor, Add, Sub, Slice, Concat, SignExt, Shl, Shr, Eq, Ltu, Ite}
 use Rattle.dt_bits.specs.declared.value.Width.{Width}
@@ -102,12 +102,9 @@ forward_bit Ite a b c i = ite_bit (known_bit a 0) (known_bit b i) (known_bit c i
 abbrev pub width_after : Op → Known → Known → Known → Width
 width_after op a b c = width (width_of op a.width.0 b.width.0 c.width.0)
 
--- the operand at place k is used, and empty
-abbrev pub is_used_empty : Op → ℕ → Known → Bool
-is_used_empty op k a = nat_lt k (arity_of op) && a.empty
-
+-- an operand that is used is empty
 abbrev pub some_used_empty : Op → Known → Known → Known → Bool
-some_used_empty op a b c = is_used_empty op 0 a || (is_used_empty op 1 b || is_used_empty op 2 c)
+some_used_empty op a b c = some_used op a.empty b.empty c.empty
 
 -- empty where a used operand is, and else what the operator's table says of each bit
 abbrev pub known_forward : Op → Known → Known → Known → Known

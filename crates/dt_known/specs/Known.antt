@@ -51,6 +51,11 @@ clash _ _ = false
 abbrev pub are_apart : Known → Known → Bool
 are_apart a b = some_below a.width.0 (λ i. clash (known_bit a i) (known_bit b i))
 
+-- a knows each bit that b knows, with the same value
+pub record KnowsAllOf (a b : Known) : Type 0 where
+  pub mask : bit_and a.mask b.mask ≡ b.mask
+  pub value : bit_and a.value b.mask ≡ b.value
+
 -- what either knows
 abbrev pub either : Option Bool → Option Bool → Option Bool
 either (Some p) q = Some p

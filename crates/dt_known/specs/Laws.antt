@@ -13,6 +13,7 @@ use Rattle.std.proofs.lemmas.Nat.{pow_pos, and_le_r, and_mask}
 use Rattle.std.specs.Int.Bits.{and_zero_r}
 use Rattle.std.proofs.Math.Nat.{mod-eq_of_lt}
 use mathlib.Core.Bool.{beq}
+use Rattle.dt_lemmas.proofs.Booleans.{same_flags, flag_same}
 use Rattle.dt_bits.specs.Bits.{IsWidth, IsValue, bit, width, differs, number_of, some_below}
 use Rattle.dt_bits.specs.Ops.{IsOp, arity_of, fits_at, width_of, value_of}
 use Rattle.dt_bits.specs.declared.op.Op.{Op}
@@ -24,7 +25,7 @@ use Rattle.dt_bits.proofs.Below.{none_below, none_below_from, found_below}
 use Rattle.dt_domain.specs.Domain.{DomainOps, DomainLaws, DecidingLaws, IsExact, Fitting, FittingAt, AreAlike, HoldUsed, AreUsedKnown, value_at, operand, Holds, IsAllKnown, KnowsBit, IsDomainOf, result_width}
 use Rattle.dt_known.specs.declared.Known.{Known}
 use Rattle.dt_known.specs.Known.{IsKnown, known_holds, is_one, known_bit, from_bits, nothing, known_meet, known_one, known_full, known_pick, known_with_bit, single_bit, clash, either, all_known, are_apart}
-use Rattle.dt_known.specs.Forward.{forward_bit, known_forward, some_used_empty, is_used_empty, width_after, not_bit, sum_bit, carry_into, greatest}
+use Rattle.dt_known.specs.Forward.{forward_bit, known_forward, some_used_empty, width_after, not_bit, sum_bit, carry_into, greatest}
 use Rattle.dt_known.specs.Backward.{backward_bit, has_conflict, known_backward}
 use Rattle.dt_known.specs.Ops.{known_ops}
 use Rattle.dt_known.specs.Laws.Bits.{Agrees, Held, held, held_is, holds_from_bits, known_is_from_bits, known_is_nothing, mask_bit, value_bit, value_fits, bit_from_bits, all_from_bits, known_all}
@@ -76,6 +77,7 @@ known_laws = record {
   forward_is = forward_is;
   backward_is = backward_is;
   width_is = λ a p. p.width;
+  mask_fits = λ a p. p.mask_fits;
   held_fits = λ a x p h. (held a x p h).fits;
   full_holds = λ w x h l. held_is (known_full w) x refl l (and_zero_r x);
   one_holds = one_holds;
@@ -109,13 +111,7 @@ known_decides = record {
 }
 
 abbrev known_eq : Known → Known → Bool
-known_eq a b = eqb a.mask b.mask && (eqb a.value b.value && (eqb a.width.0 b.width.0 && beq a.empty b.empty))
-
-same_flags : (p q : Bool) → beq p q ≡ true → p ≡ q
-same_flags p q e = grind arith
-
-flag_same : (p : Bool) → beq p p ≡ true
-flag_same p = grind arith
+known_eq a b = eqb a.mask b.mask && (eqb a.value b.value && (beq a.empty b.empty && eqb a.width.0 b.width.0))
 
 same_parts : (a b : Known) → a.mask ≡ b.mask → a.value ≡ b.value → a.width.0 ≡ b.width.0 → a.empty ≡ b.empty → a ≡ b
 same_parts a b e f g h = grind arith
@@ -125,7 +121,7 @@ known_exact = record {
   same = λ a b h.
       let p = and_parts (eqb a.mask b.mask) _ h in
       let q = and_parts (eqb a.value b.value) _ p.1 in
-      let r = and_parts (eqb a.width.0 b.width.0) (beq a.empty b.empty) q.1 in
-      same_parts a b (eqb-true _ _ p.0) (eqb-true _ _ q.0) (eqb-true _ _ r.0) (same_flags a.empty b.empty r.1);
-  refl = λ a. and_from (eqb a.mask a.mask) _ (eq-eqb a.mask a.mask refl) (and_from (eqb a.value a.value) _ (eq-eqb a.value a.value refl) (and_from (eqb a.width.0 a.width.0) (beq a.empty a.empty) (eq-eqb a.width.0 a.width.0 refl) (flag_same a.empty)));
+      let r = and_parts (beq a.empty b.empty) (eqb a.width.0 b.width.0) q.1 in
+      same_parts a b (eqb-true _ _ p.0) (eqb-true _ _ q.0) (eqb-true _ _ r.1) (same_flags a.empty b.empty r.0);
+  refl = λ a. and_from (eqb a.mask a.mask) _ (eq-eqb a.mask a.mask refl) (and_from (eqb a.value a.value) _ (eq-eqb a.value a.value refl) (and_from (beq a.empty a.empty) (eqb a.width.0 a.width.0) (flag_same a.empty) (eq-eqb a.width.0 a.width.0 refl)));
 }

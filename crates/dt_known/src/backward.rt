@@ -16,6 +16,7 @@ use crate::undo_tests::{chosen_of, eq_back_of, test_of};
 use dt_bits::Op;
 
 /// The first operand, where nothing used is empty.
+#[inline(always)]
 pub fn first_of(op: Op, outcome: &Known, a: &Known, b: &Known, c: &Known) -> Known
     requires { FittingAt known_ops op 0 outcome.now a.now b.now c.now }
     ensures { result ≡ (if has_conflict op 0 outcome.now a.now b.now c.now then nothing a.now.width
@@ -40,6 +41,7 @@ pub fn first_of(op: Op, outcome: &Known, a: &Known, b: &Known, c: &Known) -> Kno
 }
 
 /// The second operand, where nothing used is empty.
+#[inline(always)]
 pub fn second_of(op: Op, outcome: &Known, a: &Known, b: &Known, c: &Known) -> Known
     requires { FittingAt known_ops op 1 outcome.now a.now b.now c.now }
     ensures { result ≡ (if has_conflict op 1 outcome.now a.now b.now c.now then nothing b.now.width
@@ -59,6 +61,7 @@ pub fn second_of(op: Op, outcome: &Known, a: &Known, b: &Known, c: &Known) -> Kn
 }
 
 /// The third operand, where nothing used is empty. Only Ite has one.
+#[inline(always)]
 pub fn third_of(op: Op, outcome: &Known, a: &Known, b: &Known, c: &Known) -> Known
     requires { FittingAt known_ops op 2 outcome.now a.now b.now c.now }
     ensures { result ≡ (if has_conflict op 2 outcome.now a.now b.now c.now then nothing c.now.width

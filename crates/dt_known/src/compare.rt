@@ -8,6 +8,7 @@ use crate::Known;
 use dt_bits::{Width, ones};
 
 /// The Known of one bit.
+#[inline(always)]
 pub fn flag_of(known: Option<bool>) -> Known
     ensures { result ≡ from_bits (width 1) (λ i. known) }
 {
@@ -18,6 +19,7 @@ pub fn flag_of(known: Option<bool>) -> Known
     }
 }
 
+#[inline(always)]
 fn eq_bit(a: &Known, b: &Known) -> Option<bool>
     requires a { IsKnown a.now }
     requires b { IsKnown b.now }
@@ -32,6 +34,7 @@ fn eq_bit(a: &Known, b: &Known) -> Option<bool>
     }
 }
 
+#[inline(always)]
 pub fn eq_of(a: &Known, b: &Known) -> Known
     requires a { IsKnown a.now }
     requires b { IsKnown b.now }
@@ -41,6 +44,7 @@ pub fn eq_of(a: &Known, b: &Known) -> Known
 }
 
 /// The greatest held number.
+#[inline(always)]
 fn greatest(a: &Known) -> u128
     requires { IsKnown a.now }
     ensures { result ≡ greatest a.now }
@@ -48,6 +52,7 @@ fn greatest(a: &Known) -> u128
     a.value + (ones(a.width) - a.mask)
 }
 
+#[inline(always)]
 fn ltu_bit(a: &Known, b: &Known) -> Option<bool>
     requires a { IsKnown a.now }
     requires b { IsKnown b.now }
@@ -62,6 +67,7 @@ fn ltu_bit(a: &Known, b: &Known) -> Option<bool>
     }
 }
 
+#[inline(always)]
 pub fn ltu_of(a: &Known, b: &Known) -> Known
     requires a { IsKnown a.now }
     requires b { IsKnown b.now }
@@ -72,6 +78,7 @@ pub fn ltu_of(a: &Known, b: &Known) -> Known
 
 /// What both know, with one value.
 #[tactic(auto, using(crate::proofs::Words::common_words))]
+#[inline(always)]
 fn common_of(a: &Known, b: &Known) -> Known
     requires a { IsKnown a.now }
     requires b { IsKnown b.now }
@@ -82,6 +89,7 @@ fn common_of(a: &Known, b: &Known) -> Known
     Known::of_words(mask, a.value & mask, a.width)
 }
 
+#[inline(always)]
 pub fn ite_of(a: &Known, b: &Known, c: &Known) -> Known
     requires b { IsKnown b.now }
     requires c { IsKnown c.now }

@@ -3,16 +3,17 @@ ghost use Rattle.std.specs.Prelude.{◌≡◌, ℕ, Some};
 ghost use Rattle.dt_bits.specs.Bits.{IsValue, bit};
 ghost use Rattle.dt_domain.specs.Domain.{Fitting};
 ghost use Rattle.dt_known.specs.Known.{IsKnown, known_bit, from_bits};
-ghost use Rattle.dt_known.specs.Forward.{not_bit, and_bit, or_bit, xor_bit, forward_bit, width_after, some_used_empty};
+ghost use Rattle.dt_known.specs.Forward.{not_bit, and_bit, or_bit, xor_bit, forward_bit, width_after};
 ghost use Rattle.dt_known.specs.Ops.{known_ops};
 
 use crate::Known;
 use crate::compare::{eq_of, ite_of, ltu_of};
 use crate::moved::{concat_of, shl_of, shr_of, sign_of, slice_of};
 use crate::sums::{difference_of, sum_of};
-use dt_bits::{Bv, Op, Width, arity, ones};
+use dt_bits::{Bv, Op, ones};
 
 #[tactic(auto, using(crate::proofs::Words::const_words))]
+#[inline(always)]
 pub fn const_of(value: Bv) -> Known
     requires { IsValue value }
     ensures { result ≡ from_bits value.width (λ i. Some (bit value.bits i)) }
@@ -21,6 +22,7 @@ pub fn const_of(value: Bv) -> Known
 }
 
 #[tactic(auto, using(crate::proofs::Words::not_words))]
+#[inline(always)]
 pub fn not_of(a: &Known) -> Known
     requires { IsKnown a.now }
     ensures { result ≡ from_bits a.now.width (λ i. not_bit (known_bit a.now i)) }
@@ -29,6 +31,7 @@ pub fn not_of(a: &Known) -> Known
 }
 
 #[tactic(auto, using(crate::proofs::Words::and_words))]
+#[inline(always)]
 pub fn and_of(a: &Known, b: &Known) -> Known
     requires a { IsKnown a.now }
     requires b { IsKnown b.now }
@@ -40,6 +43,7 @@ pub fn and_of(a: &Known, b: &Known) -> Known
 }
 
 #[tactic(auto, using(crate::proofs::Words::or_words))]
+#[inline(always)]
 pub fn or_of(a: &Known, b: &Known) -> Known
     requires a { IsKnown a.now }
     requires b { IsKnown b.now }
@@ -51,6 +55,7 @@ pub fn or_of(a: &Known, b: &Known) -> Known
 }
 
 #[tactic(auto, using(crate::proofs::Words::xor_words))]
+#[inline(always)]
 pub fn xor_of(a: &Known, b: &Known) -> Known
     requires a { IsKnown a.now }
     requires b { IsKnown b.now }
@@ -61,32 +66,8 @@ pub fn xor_of(a: &Known, b: &Known) -> Known
     Known::of_words(mask, (a.value ^ b.value) & mask, a.width)
 }
 
-/// An operand that the operator uses is empty.
-pub fn is_some_used_empty(op: Op, a: &Known, b: &Known, c: &Known) -> bool
-    ensures { result ≡ some_used_empty op a.now b.now c.now }
-{
-    let count = arity(op);
-    0 < count && a.empty || 1 < count && b.empty || 2 < count && c.empty
-}
-
-/// The width of the operator's result.
-pub fn result_width(op: Op, a: &Known, b: &Known, c: &Known) -> Width
-    requires { Fitting known_ops op a.now b.now c.now }
-    ensures { result ≡ width_after op a.now b.now c.now }
-{
-    match op {
-        Op::Const { value } => value.width,
-        Op::Not | Op::And | Op::Or | Op::Xor | Op::Add | Op::Sub => a.width,
-        Op::Shl { .. } | Op::Shr { .. } => a.width,
-        Op::Slice { hi, lo } => Width(hi - lo + 1),
-        Op::Concat => Width(a.width.0 + b.width.0),
-        Op::SignExt { to } => Width(to),
-        Op::Eq | Op::Ltu => Width(1),
-        Op::Ite => b.width,
-    }
-}
-
 /// The operator's table, where no used operand is empty.
+#[inline(always)]
 pub fn table_of(op: Op, a: &Known, b: &Known, c: &Known) -> Known
     requires { Fitting known_ops op a.now b.now c.now }
     ensures { result ≡ from_bits (width_after op a.now b.now c.now) (forward_bit op a.now b.now c.now) }

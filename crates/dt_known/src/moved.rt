@@ -7,6 +7,7 @@ use crate::Known;
 use dt_bits::{Width, bit_of, low_ones, ones};
 
 #[tactic(auto, using(crate::proofs::MovedWords::slice_words))]
+#[inline(always)]
 pub fn slice_of(a: &Known, hi: u32, lo: u32) -> Known
     requires a { IsKnown a.now }
     requires lo { lo ≤ hi }
@@ -19,6 +20,7 @@ pub fn slice_of(a: &Known, hi: u32, lo: u32) -> Known
 }
 
 #[tactic(auto, using(crate::proofs::MovedWords::concat_words))]
+#[inline(always)]
 pub fn concat_of(a: &Known, b: &Known) -> Known
     requires a { IsKnown a.now }
     requires b { IsKnown b.now }
@@ -33,7 +35,8 @@ pub fn concat_of(a: &Known, b: &Known) -> Known
 }
 
 /// The word's bits up to its top bit, and then that bit again, up to `to`.
-#[tactic(auto, using(crate::proofs::MovedWords::spread_fits, crate::proofs::MovedWords::narrow_fits, crate::proofs::MovedWords::spread_bits, crate::proofs::MovedWords::narrow_bits))]
+#[tactic(auto, using(dt_lemmas::proofs::Powers::extended_words_fit, dt_lemmas::proofs::Powers::wider_fits, crate::proofs::MovedWords::spread_bits, crate::proofs::MovedWords::narrow_bits))]
+#[inline(always)]
 fn spread(word: u128, width: Width, to: u32) -> u128
     requires width { IsWidth width.0 }
     requires word { word < 2 ^ width.0 }
@@ -50,6 +53,7 @@ fn spread(word: u128, width: Width, to: u32) -> u128
 }
 
 #[tactic(auto, using(crate::proofs::MovedWords::sign_words))]
+#[inline(always)]
 pub fn sign_of(a: &Known, to: u32) -> Known
     requires a { IsKnown a.now }
     requires order { a.now.width.0 ≤ to }
@@ -64,6 +68,7 @@ pub fn sign_of(a: &Known, to: u32) -> Known
 }
 
 #[tactic(auto, using(crate::proofs::MovedWords::shl_words))]
+#[inline(always)]
 pub fn shl_of(a: &Known, by: u32) -> Known
     requires a { IsKnown a.now }
     requires by { by < a.now.width.0 }
@@ -76,6 +81,7 @@ pub fn shl_of(a: &Known, by: u32) -> Known
 }
 
 #[tactic(auto, using(crate::proofs::MovedWords::shr_words))]
+#[inline(always)]
 pub fn shr_of(a: &Known, by: u32) -> Known
     requires a { IsKnown a.now }
     requires by { by < a.now.width.0 }

@@ -13,6 +13,7 @@ use crate::parts::word_if;
 /// `low` carries, and known to be 0 where `high` doesn't. Where both operands' bits are known, the
 /// two sums differ in that bit exactly where their carries differ.
 #[tactic(auto, using(crate::proofs::SumWords::sum_words))]
+#[inline(always)]
 pub fn sum_of(a: &Known, b: &Known, carry: bool) -> Known
     requires a { IsKnown a.now }
     requires b { IsKnown b.now }
@@ -30,6 +31,7 @@ pub fn sum_of(a: &Known, b: &Known, carry: bool) -> Known
 
 /// The first less the second: the sum of the first, the second's bits turned, and 1.
 #[tactic(auto, using(crate::proofs::SumWords::not_is_known, crate::proofs::SumWords::difference_words))]
+#[inline(always)]
 pub fn difference_of(a: &Known, b: &Known) -> Known
     requires a { IsKnown a.now }
     requires b { IsKnown b.now }

@@ -9,6 +9,7 @@ use dt_bits::{Width, ones};
 
 /// The Known that knows no bit.
 #[tactic(auto, using(crate::proofs::BackWords::none_words))]
+#[inline(always)]
 pub fn unknown(width: Width) -> Known
     ensures { result ≡ from_bits width (λ i. None) }
 {
@@ -16,6 +17,7 @@ pub fn unknown(width: Width) -> Known
 }
 
 #[tactic(auto, using(crate::proofs::BackWords::and_back_words))]
+#[inline(always)]
 pub fn and_back_of(outcome: &Known, other: &Known) -> Known
     requires outcome { IsKnown outcome.now }
     requires other { IsKnown other.now }
@@ -28,6 +30,7 @@ pub fn and_back_of(outcome: &Known, other: &Known) -> Known
 }
 
 #[tactic(auto, using(crate::proofs::BackWords::or_back_words))]
+#[inline(always)]
 pub fn or_back_of(outcome: &Known, other: &Known) -> Known
     requires outcome { IsKnown outcome.now }
     requires other { IsKnown other.now }
@@ -40,6 +43,7 @@ pub fn or_back_of(outcome: &Known, other: &Known) -> Known
 }
 
 #[tactic(auto, using(crate::proofs::BackWords::slice_back_words))]
+#[inline(always)]
 pub fn slice_back_of(outcome: &Known, hi: u32, lo: u32, width: Width) -> Known
     requires outcome { IsKnown outcome.now }
     requires lo { lo ≤ hi }
@@ -54,6 +58,7 @@ pub fn slice_back_of(outcome: &Known, hi: u32, lo: u32, width: Width) -> Known
 
 /// The bits from `low` on.
 #[tactic(auto, using(crate::proofs::BackWords::high_words))]
+#[inline(always)]
 pub fn high_of(outcome: &Known, low: u32, width: Width) -> Known
     requires outcome { IsKnown outcome.now }
     requires low { low < 128 }
@@ -65,6 +70,7 @@ pub fn high_of(outcome: &Known, low: u32, width: Width) -> Known
 
 /// The bits below `width`.
 #[tactic(auto, using(crate::proofs::BackWords::low_words))]
+#[inline(always)]
 pub fn low_of(outcome: &Known, width: Width) -> Known
     requires outcome { IsKnown outcome.now }
     requires width { IsWidth width.0 }
@@ -75,6 +81,7 @@ pub fn low_of(outcome: &Known, width: Width) -> Known
 }
 
 #[tactic(auto, using(crate::proofs::BackWords::shl_back_words))]
+#[inline(always)]
 pub fn shl_back_of(outcome: &Known, by: u32) -> Known
     requires outcome { IsKnown outcome.now }
     requires by { by < outcome.now.width.0 }
@@ -85,6 +92,7 @@ pub fn shl_back_of(outcome: &Known, by: u32) -> Known
 }
 
 #[tactic(auto, using(crate::proofs::BackWords::shr_back_words))]
+#[inline(always)]
 pub fn shr_back_of(outcome: &Known, by: u32) -> Known
     requires outcome { IsKnown outcome.now }
     requires by { by < outcome.now.width.0 }

@@ -10,6 +10,7 @@ use dt_bits::{Width, low_ones, ones};
 
 /// Some bit from `start` on is known to be 1.
 #[tactic(auto, using(crate::proofs::SignWords::one_from))]
+#[inline(always)]
 fn is_one_from(start: u32, outcome: &Known) -> bool
     requires outcome { IsKnown outcome.now }
     requires start { start < 128 }
@@ -21,6 +22,7 @@ fn is_one_from(start: u32, outcome: &Known) -> bool
 
 /// Some bit from `start` on is known to be 0.
 #[tactic(auto, using(crate::proofs::SignWords::zero_from))]
+#[inline(always)]
 fn is_zero_from(start: u32, outcome: &Known) -> bool
     requires outcome { IsKnown outcome.now }
     requires start { start < 128 }
@@ -32,6 +34,7 @@ fn is_zero_from(start: u32, outcome: &Known) -> bool
 
 /// The bits below the top are the result's, and the top is the value of the known bits of the
 /// result from that place up: nothing where these differ.
+#[inline(always)]
 pub fn sign_back_of(outcome: &Known, width: Width) -> Known
     requires outcome { IsKnown outcome.now }
     requires width { IsWidth width.0 }

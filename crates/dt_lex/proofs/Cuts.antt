@@ -1,7 +1,8 @@
 -- The first line of a text, and the first token of a line.
-use Rattle.std.proofs.Common.{◌≡◌, ℕ, zero, suc, ◌+◌, ◌<◌, ◌≤◌, Bool, true, false, not, cond, ◌&&◌, eqb, List, [], ◌∷◌, length, take, drop, get_or, refl, sym, ap, subst, ◌∙◌, arith, inl, inr}
+use Rattle.std.proofs.Common.{◌≡◌, ℕ, zero, suc, ◌+◌, ◌<◌, ◌≤◌, Bool, true, false, not, ◌&&◌, eqb, List, [], ◌∷◌, length, take, drop, get_or, refl, sym, ap, subst, ◌∙◌, arith, inl, inr}
 use Rattle.std.specs.List.{prefix_len, position_or_len}
 use Rattle.std.proofs.lemmas.Bool.{cases_Bool, and_from, and_left, and_right, cond-true, cond-false, eq-eqb, ne_eqb, not_from_false}
+use Rattle.dt_lemmas.proofs.Booleans.{third, fourth}
 use Rattle.dt_lex.specs.Text.{put_front, lines_of, is_blank, is_paren, is_word, begins_word, tokens_of}
 
 one_more : (n : ℕ) → 1 + n ≡ suc n
@@ -43,12 +44,6 @@ lines_past (suc n) (b ∷ bs) h = lines_past n bs (omega arith)
 
 pub word_parts : (b : ℕ) → is_word b ≡ true → (eqb b 35 ≡ false) × (is_blank b ≡ false)
 word_parts b h = grind arith
-
-pub third : {X : Type 0} (p q r : Bool) (x y z w : X) → p ≡ false → q ≡ false → r ≡ true → cond p x (cond q y (cond r z w)) ≡ z
-third p q r x y z w hp hq hr = rw (hp, hq, hr) refl
-
-pub fourth : {X : Type 0} (p q r : Bool) (x y z w : X) → p ≡ false → q ≡ false → r ≡ false → cond p x (cond q y (cond r z w)) ≡ w
-fourth p q r x y z w hp hq hr = rw (hp, hq, hr) refl
 
 pub word_alone : (b : ℕ) (bs : List ℕ) → is_word b ≡ true → begins_word bs ≡ false → tokens_of (b ∷ bs) ≡ (b ∷ []) ∷ tokens_of bs
 unfolding tokens_of

@@ -1,9 +1,13 @@
 pub mod Cuts
 pub mod Numbers
-pub mod Folds
+pub mod Loop
 pub mod Printed
 pub mod Pieces
 pub mod Places
 pub mod Spanned
 pub mod Located
 pub mod Padded
+pub mod Orders
+pub mod Blocks
+pub mod NameWords
+pub mod Entries

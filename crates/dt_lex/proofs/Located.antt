@@ -1,5 +1,5 @@
 -- Where the tokens of a line, and of lines, stand.
-use Rattle.std.proofs.Common.{◌≡◌, ℕ, suc, ◌+◌, ◌-◌, ◌<◌, ◌≤◌, true, false, ◌&&◌, eqb, List, [], ◌∷◌, ◌++◌, length, take, drop, get_or, refl, sym, ap, subst, ◌∙◌, append_assoc, append-nil, arith, inl, inr, length-drop, length-take}
+use Rattle.std.proofs.Common.{◌≡◌, ℕ, suc, ◌+◌, ◌-◌, ◌<◌, ◌≤◌, true, false, ◌&&◌, eqb, List, [], ◌∷◌, ◌++◌, length, take, drop, get_or, refl, sym, ap, subst, ◌∙◌, append_assoc, append-nil, arith, inl, inr}
 use Rattle.std.specs.Prelude.{slice_range}
 use Rattle.std.specs.List.{prefix_len}
 use Rattle.std.proofs.lemmas.List.{drop-drop, drop_all, take_rest}
@@ -7,8 +7,10 @@ use Rattle.std.proofs.lemmas.Bool.{cases_Bool, and_from, and_left, and_right, co
 use Rattle.dt_lex.specs.declared.spans.Token.{Token}
 use Rattle.dt_lex.specs.Text.{is_blank, is_paren, is_word, begins_word}
 use Rattle.dt_lex.specs.Spans.{begin_at, spans_of, on_line, tokens_from}
-use Rattle.dt_lex.proofs.Cuts.{word_parts, third, fourth, more_at, none_at, word_at}
-use Rattle.dt_lex.proofs.Places.{first_is, word_is}
+use Rattle.dt_lemmas.proofs.Booleans.{third, fourth}
+use Rattle.dt_lemmas.proofs.Lists.{get_or_drop, some_left}
+use Rattle.dt_lex.proofs.Cuts.{word_parts, more_at, none_at, word_at}
+use Rattle.dt_lex.proofs.Places.{word_is}
 use Rattle.dt_lex.proofs.Spanned.{rest_of}
 
 -- ---- the first byte of what stands at a place
@@ -87,16 +89,13 @@ at_word at (b ∷ bs) some h = word_span at b bs h
 
 -- ---- what stands from a place of a line on
 
-some_left : (line : List ℕ) (i : ℕ) → i < length line → 0 < length (drop i line)
-some_left line i lt = omega (arith, length-drop i line)
-
 pub located_comment : (line : List ℕ) (i at : ℕ) → get_or line i 0 ≡ 35 → spans_of (at + i) (drop i line) ≡ []
-located_comment line i at h = at_comment (at + i) (drop i line) (first_is line i ∙ h)
+located_comment line i at h = at_comment (at + i) (drop i line) (get_or_drop line i 0 ∙ h)
 
 pub located_blank : (line : List ℕ) (i at : ℕ) → i < length line → is_blank (get_or line i 0) ≡ true → spans_of (at + i) (drop i line) ≡ spans_of (at + (i + 1)) (drop (i + 1) line)
 located_blank line i at lt h =
     let next : at + i + 1 ≡ at + (i + 1) = omega arith in
-    at_blank (at + i) (drop i line) (some_left line i lt) (ap is_blank (first_is line i) ∙ h) ∙ (λ j. spans_of (next j) (drop-drop 1 i line j))
+    at_blank (at + i) (drop i line) (some_left line i lt) (ap is_blank (get_or_drop line i 0) ∙ h) ∙ (λ j. spans_of (next j) (drop-drop 1 i line j))
 
 -- from the front of what is left to the whole line
 placed : (line : List ℕ) (i n at : ℕ) → First (at + i) (drop i line) n → spans_of (at + i) (drop i line) ≡ (at + i, at + (i + n)) ∷ spans_of (at + (i + n)) (drop (i + n) line)
@@ -105,13 +104,13 @@ placed line i n at h =
     h ∙ (λ j. (at + i, end j) ∷ spans_of (end j) (drop-drop n i line j))
 
 pub located_paren : (line : List ℕ) (i at : ℕ) → is_paren (get_or line i 0) ≡ true → spans_of (at + i) (drop i line) ≡ (at + i, at + (i + 1)) ∷ spans_of (at + (i + 1)) (drop (i + 1) line)
-located_paren line i at h = placed line i 1 at (at_paren (at + i) (drop i line) (ap is_paren (first_is line i) ∙ h))
+located_paren line i at h = placed line i 1 at (at_paren (at + i) (drop i line) (ap is_paren (get_or_drop line i 0) ∙ h))
 
 pub located_word : (line : List ℕ) (i n at : ℕ) → i < length line → (get_or line i 0 ≡ 35 → ⊥) → is_paren (get_or line i 0) ≡ false → is_blank (get_or line i 0) ≡ false → n ≡ prefix_len is_word (take (length line - i) (drop i line)) → spans_of (at + i) (drop i line) ≡ (at + i, at + (i + n)) ∷ spans_of (at + (i + n)) (drop (i + n) line)
 located_word line i n at lt h1 h2 h3 is =
     let rest = drop i line in
     let same : n ≡ word_at rest = is ∙ ap (prefix_len is_word) (take_rest line i) in
-    placed line i n at (subst (First (at + i) rest) (sym same) (at_word (at + i) rest (some_left line i lt) (ap is_word (first_is line i) ∙ word_is (get_or line i 0) h1 h2 h3)))
+    placed line i n at (subst (First (at + i) rest) (sym same) (at_word (at + i) rest (some_left line i lt) (ap is_word (get_or_drop line i 0) ∙ word_is (get_or line i 0) h1 h2 h3)))
 
 pub located_end : (line : List ℕ) (i at : ℕ) → length line ≤ i → spans_of (at + i) (drop i line) ≡ []
 located_end line i at past = ap (spans_of (at + i)) (drop_all i line past) ∙ spans-nil (at + i)
@@ -129,9 +128,6 @@ pub span_end : (text : List ℕ) (ts : List Token) (n at to : ℕ) → spans_of 
 span_end text ts n at to none = ap (λ (us : List (ℕ × ℕ)). ts ++ on_line n us) none ∙ append-nil ts
 
 -- ---- lines
-
-pub slice_width : (text : List ℕ) (from to : ℕ) → from ≤ to → to ≤ length text → from + length (slice_range text from to) ≡ to
-slice_width text from to rising within = omega (arith, length-take (to - from) (drop from text), length-drop from text)
 
 -- the tokens of a line are pushed, and those of the lines behind it are left
 pub lines_more : (old new : List Token) (n from to : ℕ) (line : List ℕ) (lines more : List (List ℕ)) (total : List Token) → lines ≡ line ∷ more → from + length line ≡ to → new ≡ old ++ on_line n (spans_of from line) → old ++ tokens_from from n lines ≡ total → new ++ tokens_from (to + 1) (n + 1) more ≡ total

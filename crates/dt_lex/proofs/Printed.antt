@@ -13,9 +13,9 @@ use Rattle.dt_lex.specs.declared.fault.LexFault.{LexFault}
 use Rattle.dt_lex.specs.Text.{put_front, lines_of, tokens_of, has_bad_byte, is_word, is_bad, begins_word, fault_of}
 use Rattle.dt_lex.specs.Numeral.{all_digits, digits_read, number_of, is_hex, numeral, decimal, hex}
 use Rattle.dt_lex.specs.Printing.{is_plain, all_plain, IsWord, spaced, body_of, text_of, IsRow}
-use Rattle.dt_lex.specs.Reading.{Grammar, ◌>>=◌, row_entry, unless_faulty, line_entry, grow, reading_of}
+use Rattle.dt_lex.specs.Reading.{Grammar, AddsUp, ◌>>=◌, row_entry, unless_faulty, line_entry, grow, reading_of}
 use Rattle.dt_lex.proofs.Cuts.{word_alone, word_joined, blank_skipped, tokens_nil}
-use Rattle.dt_lex.proofs.Folds.{run_from, bind_same, AddsUp, reading_run}
+use Rattle.dt_lex.proofs.Loop.{run_from, bind_same, reading_run}
 
 pub record IsPlain (b : ℕ) : Type 0 where
   pub word : is_word b ≡ true
@@ -123,7 +123,7 @@ faultless n body row h =
     cond-false (ltb 16384 (length body)) _ _ (le-ltb 16384 (length body) h.short) ∙ cond-false (has_bad_byte body) _ _ h.good
 
 -- such a line is read as its tokens are
-pub line_is_row : {E D F : Type 0} (g : Grammar E D F) (n : ℕ) (d : D) (body : List ℕ) (row : List (List ℕ)) → IsLine body row → line_entry g n d body ≡ row_entry g n d row
+pub line_is_row : {E D C F : Type 0} (g : Grammar E D C F) (n : ℕ) (d : D) (body : List ℕ) (row : List (List ℕ)) → IsLine body row → line_entry g n d body ≡ row_entry g n d row
 unfolding line_entry
 line_is_row g n d body row h =
     ap (λ (o : Option LexFault). unless_faulty g.lexical o (row_entry g n d (tokens_of body))) (faultless n body row h) ∙ ap (row_entry g n d) h.tokens
@@ -132,7 +132,7 @@ length_bodies : (rows : List (List (List ℕ))) → length (map body_of rows) �
 length_bodies rows = length-map rows body_of
 
 -- a printed text is read line by line
-pub reading_lines : {E D V F : Type 0} (g : Grammar E D F) (add : D → E → D) (finish : ℕ → D → Result V F) (rows : List (List (List ℕ))) (d : D) → AddsUp g add → HaveNoFeed rows → run_from g add 1 (g.declared []) (map body_of rows) ≡ Ok d → reading_of g finish (text_of rows) ≡ finish (length rows + 1) d
+pub reading_lines : {E D C V F : Type 0} (g : Grammar E D C F) (add : D → E → D) (finish : ℕ → D → Result V F) (rows : List (List (List ℕ))) (d : D) → AddsUp g add → HaveNoFeed rows → run_from g add 1 (g.declared []) (map body_of rows) ≡ Ok d → reading_of g finish (text_of rows) ≡ finish (length rows + 1) d
 reading_lines {D = D} {F = F} g add finish rows d law are h =
     let lines = lines_text rows are in
     let count : length (lines_of (text_of rows)) ≡ length rows = ap length lines ∙ length_bodies rows in
@@ -141,7 +141,7 @@ reading_lines {D = D} {F = F} g add finish rows d law are h =
 
 -- ---- reading rows in the place of lines
 
-unfoldable pub run_rows : {E D F : Type 0} → Grammar E D F → (D → E → D) → ℕ → D → List (List (List ℕ)) → Result D F
+unfoldable pub run_rows : {E D C F : Type 0} → Grammar E D C F → (D → E → D) → ℕ → D → List (List (List ℕ)) → Result D F
 run_rows g add n d [] = Ok d
 run_rows g add n d (row ∷ rows) = row_entry g n d row >>= λ e. run_rows g add (n + 1) (grow add d e) rows
 
@@ -152,14 +152,14 @@ row_feeds : (rows : List (List (List ℕ))) → AllByRecursion IsRow rows → Ha
 row_feeds [] h = tt
 row_feeds (row ∷ rows) h = (no_feed_body row h.0.words, row_feeds rows h.1)
 
-pub run_printed : {E D F : Type 0} (g : Grammar E D F) (add : D → E → D) (n : ℕ) (d : D) (rows : List (List (List ℕ))) → AllByRecursion IsRow rows → run_from g add n d (map body_of rows) ≡ run_rows g add n d rows
+pub run_printed : {E D C F : Type 0} (g : Grammar E D C F) (add : D → E → D) (n : ℕ) (d : D) (rows : List (List (List ℕ))) → AllByRecursion IsRow rows → run_from g add n d (map body_of rows) ≡ run_rows g add n d rows
 unfolding run_from run_rows
 run_printed g add n d [] h = refl
 run_printed {E = E} {F = F} g add n d (row ∷ rows) h =
     ap (λ (r : Result (Option E) F). r >>= λ e. run_from g add (n + 1) (grow add d e) (map body_of rows)) (line_is_row g n d (body_of row) row (row_line row h.0)) ∙ bind_same (row_entry g n d row) (λ o. run_from g add (n + 1) (grow add d o) (map body_of rows)) (λ o. run_rows g add (n + 1) (grow add d o) rows) (λ o. run_printed g add (n + 1) (grow add d o) rows h.1)
 
 -- a printed text reads as its rows do
-pub reading_printed : {E D V F : Type 0} (g : Grammar E D F) (add : D → E → D) (finish : ℕ → D → Result V F) (rows : List (List (List ℕ))) (d : D) → AddsUp g add → AllByRecursion IsRow rows → run_rows g add 1 (g.declared []) rows ≡ Ok d → reading_of g finish (text_of rows) ≡ finish (length rows + 1) d
+pub reading_printed : {E D C V F : Type 0} (g : Grammar E D C F) (add : D → E → D) (finish : ℕ → D → Result V F) (rows : List (List (List ℕ))) (d : D) → AddsUp g add → AllByRecursion IsRow rows → run_rows g add 1 (g.declared []) rows ≡ Ok d → reading_of g finish (text_of rows) ≡ finish (length rows + 1) d
 reading_printed g add finish rows d law are h =
     reading_lines g add finish rows d law (row_feeds rows are) (run_printed g add 1 (g.declared []) rows are ∙ h)
 

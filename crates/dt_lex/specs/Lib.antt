@@ -4,3 +4,6 @@ pub mod Reading
 pub mod Printing
 pub mod Spans
 pub mod Names
+pub mod Fault
+pub mod Sections
+pub mod Frame

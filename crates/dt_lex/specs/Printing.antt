@@ -1,7 +1,10 @@
 -- Rows of tokens as text, with one blank between tokens.
-use Rattle.std.specs.Prelude.{◌≡◌, ◌<◌, ◌≤◌, ◌==◌, ℕ, nat_lt, Bool, true, not, ◌&&◌, List, [], ◌∷◌, ◌++◌, length}
+use Rattle.std.specs.Prelude.{◌≡◌, ◌<◌, ◌≤◌, ◌==◌, ℕ, nat_lt, Bool, true, not, ◌&&◌, List, [], ◌∷◌, ◌++◌, length, map}
 use Rattle.std.specs.List.{flat_map, list_all, AllByRecursion}
+use Rattle.dt_lex.specs.declared.row.Piece.{Piece}
+use Rattle.dt_lex.specs.declared.row.Piece.TheVariants.{Word, Decimal, Hex, Hexes}
 use Rattle.dt_lex.specs.Text.{is_paren}
+use Rattle.dt_lex.specs.Numeral.{decimal, hex}
 
 -- printable, and no parenthesis and no comment's sign
 abbrev pub is_plain : ℕ → Bool
@@ -33,3 +36,10 @@ text_of rows = flat_map row_text rows
 pub record IsRow (row : List (List ℕ)) : Type 0 where
   pub words : AllByRecursion IsWord row
   pub short : length (body_of row) ≤ 16384
+
+-- the tokens of a piece of a row
+abbrev pub piece_tokens : Piece → List (List ℕ)
+piece_tokens (Word w) = w.now ∷ []
+piece_tokens (Decimal n) = decimal n ∷ []
+piece_tokens (Hex n) = hex n ∷ []
+piece_tokens (Hexes ns) = map hex ns.now

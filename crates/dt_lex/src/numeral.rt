@@ -1,4 +1,4 @@
-ghost use Rattle.std.specs.Prelude.{◌≡◌, ◌++◌, ◌<◌, ◌≤◌, OnOk};
+ghost use Rattle.std.specs.Prelude.{◌≡◌, ◌++◌, ◌<◌, ◌≤◌, OnOk, OnErr, take, vec_len};
 ghost use Rattle.std.specs.Char.{digit_value, digit_char};
 ghost use Rattle.dt_lex.specs.Numeral.{digits_read, number_of, numeral, decimal, hex};
 
@@ -73,12 +73,13 @@ fn digit_char(digit: u8) -> u8
     }
 }
 
-/// Appends the number without leading zeros.
-#[tactic(auto, using(crate::proofs::Numbers::numeral_small, crate::proofs::Numbers::numeral_step, std::proofs::lemmas::List::append_assoc))]
+/// Appends the number without leading zeros; after an error some of its digits may stand there.
+#[tactic(auto, using(crate::proofs::Numbers::numeral_small, crate::proofs::Numbers::numeral_step, dt_lemmas::proofs::Lists::take_kept, std::proofs::lemmas::List::append_assoc))]
 fn push_digits(out: &mut Vec<u8>, base: u8, n: u128) -> Result<(), AllocError>
     requires low { 2 ≤ base }
     requires high { base ≤ 16 }
-    ensures { OnOk result (out.new.items ≡ out.old.items ++ numeral base n) }
+    ensures ok { OnOk result (out.new.items ≡ out.old.items ++ numeral base n) }
+    ensures kept { take (vec_len out.old) out.new.items ≡ out.old.items }
 {
     let wide = u128::from(base);
     if n < wide {
@@ -90,17 +91,38 @@ fn push_digits(out: &mut Vec<u8>, base: u8, n: u128) -> Result<(), AllocError>
     Ok(())
 }
 
-/// Appends the number in decimal, without leading zeros.
-pub fn push_decimal(out: &mut Vec<u8>, n: u128) -> Result<(), AllocError>
-    ensures { OnOk result (out.new.items ≡ out.old.items ++ decimal n) }
+#[tactic(auto, using(dt_lemmas::proofs::Lists::take_front, std::proofs::lemmas::List::append_assoc))]
+/// Appends the prefix and the number without leading zeros.
+fn push_number(out: &mut Vec<u8>, prefix: &[u8], base: u8, n: u128) -> Result<(), AllocError>
+    requires low { 2 ≤ base }
+    requires high { base ≤ 16 }
+    ensures ok { OnOk result (out.new.items ≡ out.old.items ++ (prefix.now ++ numeral base n)) }
+    ensures err { OnErr result (out.new.items ≡ out.old.items) }
 {
-    push_digits(out, 10, n)
+    let before = out.len();
+    out.extend_from_slice(prefix)?;
+    match push_digits(out, base, n) {
+        Ok(()) => Ok(()),
+        Err(error) => {
+            out.truncate(before);
+            Err(error)
+        }
+    }
+}
+
+/// Appends the number in decimal, without leading zeros. Where memory runs out nothing is appended.
+pub fn push_decimal(out: &mut Vec<u8>, n: u128) -> Result<(), AllocError>
+    ensures ok { OnOk result (out.new.items ≡ out.old.items ++ decimal n) }
+    ensures err { OnErr result (out.new.items ≡ out.old.items) }
+{
+    push_number(out, b"", 10, n)
 }
 
 /// Appends `0x` and the number in lower-case hexadecimal, without leading zeros; zero is `0x0`.
+/// Where memory runs out nothing is appended.
 pub fn push_hex(out: &mut Vec<u8>, n: u128) -> Result<(), AllocError>
-    ensures { OnOk result (out.new.items ≡ out.old.items ++ hex n) }
+    ensures ok { OnOk result (out.new.items ≡ out.old.items ++ hex n) }
+    ensures err { OnErr result (out.new.items ≡ out.old.items) }
 {
-    out.extend_from_slice(b"0x")?;
-    push_digits(out, 16, n)
+    push_number(out, b"0x", 16, n)
 }

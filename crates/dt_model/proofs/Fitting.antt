@@ -6,7 +6,7 @@ use Rattle.dt_bits.specs.Ops.{arity_of, fits_at, width_of}
 use Rattle.dt_bits.specs.declared.op.Op.{Op}
 use Rattle.dt_bits.specs.declared.op.Op.TheVariants.{Const, Not, And, Or, Xor, Add, Sub, Slice, Concat, SignExt, Shl, Shr, Eq, Ltu, Ite}
 use Rattle.dt_model.specs.declared.model.Named.{Named}
-use Rattle.dt_model.specs.Data.{Tree, value, reg, input, var, apply1, apply2, apply3}
+use Rattle.dt_model.specs.ModelData.{Tree, value, reg, input, var, apply1, apply2, apply3}
 use Rattle.dt_model.specs.Widths.{Scope, is_constant, width_at, fitted, tree_width, mismatch, out_of_range, has_unknown, has_mismatch, has_bad_range, HasArities}
 
 below_fits : (a b : ℕ) → ltb a (b + 1) ≡ false → ltb b a ≡ true

@@ -1,8 +1,9 @@
 -- The four words of a set.
-use Rattle.std.proofs.Common.{◌≡◌, ℕ, zero, suc, ◌-◌, ◌/◌, ◌%◌, ◌^◌, ◌<◌, Bool, true, false, not, ◌&&◌, ◌||◌, eqb, List, [], ◌∷◌, length, get_or, set, bit_and, bit_or, refl, sym, ap, ◌∙◌, ⊎_elim, arith}
+use Rattle.std.proofs.Common.{◌≡◌, ℕ, zero, suc, ◌-◌, ◌*◌, ◌/◌, ◌%◌, ◌^◌, ◌<◌, Bool, not, ◌&&◌, ◌||◌, eqb, List, [], ◌∷◌, length, get_or, set, bit_and, bit_or, refl, sym, ap, ◌∙◌, ⊎_elim, arith}
+use Rattle.std.proofs.Math.Bool.{or-false, and-true}
 use Rattle.std.proofs.lemmas.Bool.{cases_eq, ne_eqb, eq-eqb}
 use Rattle.std.proofs.lemmas.List.{get_or-set_same, get_or-set_other}
-use Rattle.std.proofs.lemmas.Nat.{pow_below}
+use Rattle.std.proofs.lemmas.Nat.{pow_below, one_shl}
 use Rattle.dt_bits.specs.Bits.{bit}
 use Rattle.dt_bits.proofs.BitLemmas.{bit_of_and, bit_of_or, bit_of_pow, bit_of_complement}
 
@@ -25,14 +26,6 @@ union_lanes a b v l =
 pub same_lanes : (x v : ℕ) → v < 512 → bit x (v % 128) ≡ lane_has (x ∷ x ∷ x ∷ x ∷ []) v
 same_lanes x v l = four (λ q. bit x (v % 128) ≡ bit (get_or (x ∷ x ∷ x ∷ x ∷ []) q 0) (v % 128)) refl refl refl refl (v / 128) (omega arith)
 
-or_false : (b : Bool) → (b || false) ≡ b
-or_false true = refl
-or_false false = refl
-
-and_true : (b : Bool) → (b && true) ≡ b
-and_true true = refl
-and_true false = refl
-
 other_number : (v x : ℕ) → (v ≡ x → ⊥) → v / 128 ≡ x / 128 → v % 128 ≡ x % 128 → ⊥
 other_number v x n d m = n (omega arith)
 
@@ -42,6 +35,10 @@ same_rest v x e =
     (λ (s : v ≡ x). eq-eqb _ _ (ap (λ k. k % 128) s) ∙ sym (eq-eqb _ _ s))
     (λ (n : v ≡ x → ⊥). ne_eqb _ _ (λ m. other_number v x n e m) ∙ sym (ne_eqb _ _ n))
     (cases_eq v x)
+
+-- one bit of a word
+pub one_bit : (x : ℕ) → 1 * 2 ^ (x % 128) % 2 ^ 128 ≡ 2 ^ (x % 128)
+one_bit x = one_shl (x % 128) 128 (omega arith)
 
 pub with_lane : (a : List ℕ) (v x : ℕ) → length a ≡ 4 → v < 512 → x < 512
     → lane_has (set a (x / 128) (bit_or (get_or a (x / 128) 0) (2 ^ (x % 128)))) v ≡ (lane_has a v || eqb v x)
@@ -57,7 +54,7 @@ with_lane a v x l p q =
     ∙ ap (λ b. lane_has a v || b) (bit_of_pow (x % 128) (v % 128) ∙ same_rest v x e))
     (λ (n : v / 128 ≡ x / 128 → ⊥).
     let s : get_or (set a (x / 128) w) (v / 128) 0 ≡ get_or a (v / 128) 0 = get_or-set_other a (x / 128) (v / 128) w 0 n in
-    ap (λ n. bit n (v % 128)) s ∙ sym (or_false (lane_has a v)) ∙ ap (λ b. lane_has a v || b) (sym (ne_eqb v x (λ e. n (ap (λ k. k / 128) e)))))
+    ap (λ n. bit n (v % 128)) s ∙ sym (or-false (lane_has a v)) ∙ ap (λ b. lane_has a v || b) (sym (ne_eqb v x (λ e. n (ap (λ k. k / 128) e)))))
     (cases_eq (v / 128) (x / 128))
 
 pub without_lane : (a : List ℕ) (v x : ℕ) → length a ≡ 4 → v < 512 → x < 512
@@ -74,5 +71,5 @@ without_lane a v x l p q =
     ∙ ap (λ b. lane_has a v && b) (bit_of_complement 128 (2 ^ (x % 128)) (v % 128) (pow_below (x % 128) 128 (omega arith)) (omega arith) ∙ ap not (bit_of_pow (x % 128) (v % 128) ∙ same_rest v x e)))
     (λ (n : v / 128 ≡ x / 128 → ⊥).
     let s : get_or (set a (x / 128) w) (v / 128) 0 ≡ get_or a (v / 128) 0 = get_or-set_other a (x / 128) (v / 128) w 0 n in
-    ap (λ n. bit n (v % 128)) s ∙ sym (and_true (lane_has a v)) ∙ ap (λ b. lane_has a v && b) (sym (ap not (ne_eqb v x (λ e. n (ap (λ k. k / 128) e))))))
+    ap (λ n. bit n (v % 128)) s ∙ sym (and-true (lane_has a v)) ∙ ap (λ b. lane_has a v && b) (sym (ap not (ne_eqb v x (λ e. n (ap (λ k. k / 128) e))))))
     (cases_eq (v / 128) (x / 128))

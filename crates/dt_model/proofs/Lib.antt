@@ -2,8 +2,11 @@ pub mod PathSets
 pub mod Lanes
 pub mod Nodes
 pub mod Fitting
-pub mod Firsts
+pub mod Refusals
 pub mod NodeTells
 pub mod Compose
 pub mod Accepting
-pub mod Seeing
+pub mod BoundsFit
+pub mod Prefixes
+pub mod Certified
+pub mod NameTables

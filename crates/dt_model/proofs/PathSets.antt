@@ -2,7 +2,7 @@
 use Rattle.std.proofs.Common.{◌≡◌, ℕ, zero, suc, ◌+◌, ◌<◌, ◌≤◌, Bool, true, false, not, ◌&&◌, ◌||◌, cond, eqb, ltb, List, [], ◌∷◌, Option, Some, None, ◌↔◌, refl, sym, ap, ◌∙◌, subst, ⊎_elim, arith}
 use Rattle.std.specs.Prelude.{slice_get}
 use Rattle.std.proofs.lemmas.Bool.{false≢true, or_cases, or_left, or_right, and_parts, and_from, eqb-true, eq-eqb, ltb-true, lt-ltb, cases_lt}
-use Rattle.dt_model.specs.Data.{Step}
+use Rattle.dt_model.specs.ModelData.{ActData}
 use Rattle.dt_model.specs.Paths.{Side, next, then, other, Exit, Edge, exit, step_exit, IsPath, is_var, exit_assigns, assigned_by, SomePath}
 use Rattle.dt_model.specs.Flow.{arrives, any_side, some_after}
 
@@ -50,11 +50,11 @@ ends_within k n [] l h = tt
 ends_within k n (e ∷ p) l h = omega arith
 
 -- a path to n ends below n
-pub ends_below : (g : List Step) (n : ℕ) (p : List Edge) → IsPath g p n → EndsBelow n p
+pub ends_below : (g : List ActData) (n : ℕ) (p : List Edge) → IsPath g p n → EndsBelow n p
 ends_below g n [] h = tt
 ends_below g n (e ∷ p) h = h.0.3
 
-pub path_from_after : (g : List Step) (v k n : ℕ) (b : Bool) → some_after g v k n b ≡ true → (p : List Edge) × IsPath g p n × EndsBelow k p × (assigned_by g p v ≡ b)
+pub path_from_after : (g : List ActData) (v k n : ℕ) (b : Bool) → some_after g v k n b ≡ true → (p : List Edge) × IsPath g p n × EndsBelow k p × (assigned_by g p v ≡ b)
 unfolding some_after
 path_from_after g v zero n true e = absurd (false≢true (and_parts (eqb n 0) false e).1)
 path_from_after g v zero n false e = ([], eqb-true n 0 (and_parts (eqb n 0) true e).0, tt, refl)
@@ -75,7 +75,7 @@ path_from_after g v (suc k) n b e =
     ))
     (or_cases (some_after g v k n b) _ e)
 
-pub after_from_path : (g : List Step) (v k n : ℕ) (b : Bool) (p : List Edge) → IsPath g p n → EndsBelow k p → assigned_by g p v ≡ b → some_after g v k n b ≡ true
+pub after_from_path : (g : List ActData) (v k n : ℕ) (b : Bool) (p : List Edge) → IsPath g p n → EndsBelow k p → assigned_by g p v ≡ b → some_after g v k n b ≡ true
 unfolding some_after
 after_from_path g v zero n b [] h l e = subst (λ c. (eqb n 0 && not c) ≡ true) e (and_from _ _ (eq-eqb n 0 h) refl)
 after_from_path g v zero n b (e ∷ p) h l a = absurd (omega arith)
@@ -96,13 +96,13 @@ after_from_path g v (suc k) n b (e ∷ p) h l a =
     (cases_lt e.node k)
 
 -- At node n itself, and at each count of nodes from n on, the set is that of all paths to n.
-pub some_path_from : (g : List Step) (v n : ℕ) (b : Bool) → some_after g v n n b ≡ true → SomePath g n v b
+pub some_path_from : (g : List ActData) (v n : ℕ) (b : Bool) → some_after g v n n b ≡ true → SomePath g n v b
 some_path_from g v n b e = let r = path_from_after g v n n b e in (r.0, r.1, r.3)
 
-pub after_from_some_path : (g : List Step) (v n : ℕ) (b : Bool) → SomePath g n v b → some_after g v n n b ≡ true
+pub after_from_some_path : (g : List ActData) (v n : ℕ) (b : Bool) → SomePath g n v b → some_after g v n n b ≡ true
 after_from_some_path g v n b s = after_from_path g v n n b s.0 s.1 (ends_below g n s.0 s.1) s.2
 
-pub some_path_at : (g : List Step) (v k n : ℕ) (b : Bool) → n ≤ k → (some_after g v k n b ≡ true) ↔ SomePath g n v b
+pub some_path_at : (g : List ActData) (v k n : ℕ) (b : Bool) → n ≤ k → (some_after g v k n b ≡ true) ↔ SomePath g n v b
 some_path_at g v k n b l = (
   (λ e. let r = path_from_after g v k n b e in (r.0, r.1, r.3)),
   (λ s. after_from_path g v k n b s.0 s.1 (ends_within k n s.0 l (ends_below g n s.0 s.1)) s.2),
@@ -124,7 +124,7 @@ any_side_same f h e =
     cc
 
 -- the sets past node k, whose step is known
-pub after_more : (g : List Step) (p : Step) (at : Bool → Bool) (old : Bool) (v k n : ℕ) (b : Bool) → slice_get g k ≡ Some p → ((c : Bool) → at c ≡ some_after g v k k c) → old ≡ some_after g v k n b
+pub after_more : (g : List ActData) (p : ActData) (at : Bool → Bool) (old : Bool) (v k n : ℕ) (b : Bool) → slice_get g k ≡ Some p → ((c : Bool) → at c ≡ some_after g v k k c) → old ≡ some_after g v k n b
     → (old || any_side (λ s. arrives (exit p s) k n v b at)) ≡ some_after g v (k + 1) n b
 unfolding some_after
 after_more g p at old v k n b e h o =
@@ -133,6 +133,6 @@ after_more g p at old v k n b e h o =
     let one : suc k ≡ k + 1 = omega arith in
     ap (λ q. q || any_side (λ s. arrives (exit p s) k n v b at)) o ∙ ap (λ q. some_after g v k n b || q) same ∙ ap (λ m. some_after g v m n b) one
 
-pub after_none : (g : List Step) (v n : ℕ) (b : Bool) → (eqb n 0 && not b) ≡ some_after g v 0 n b
+pub after_none : (g : List ActData) (v n : ℕ) (b : Bool) → (eqb n 0 && not b) ≡ some_after g v 0 n b
 unfolding some_after
 after_none g v n b = refl

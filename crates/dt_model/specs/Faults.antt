@@ -8,7 +8,7 @@ use Rattle.dt_model.specs.declared.refusal.ModelRefusal.{ModelRefusal}
 use Rattle.dt_model.specs.declared.refusal.ModelRefusal.TheVariants.{NameTwice, UnknownName, WidthMismatch, WidthRange, BackEdge, Unassigned, AssignedTwice, NoNode, TooMany, TooDeep}
 use Rattle.dt_model.specs.declared.refusal.Place.{Place}
 use Rattle.dt_model.specs.declared.refusal.Place.TheVariants.{Header, Reg, Input, Var, LegalContext, LegalAccess, Node}
-use Rattle.dt_model.specs.Data.{Data, Tree, Step, Spot, bind, read, branch, fault, done}
+use Rattle.dt_model.specs.ModelData.{ModelData, Tree, ActData, NodeData, bind, read, branch, fault, done}
 use Rattle.dt_model.specs.Limits.{most_regs, most_inputs, most_vars, most_rules, most_nodes, most_reads, most_dones, most_operators, most_model_operators, most_depth, most_code}
 use Rattle.dt_model.specs.Paths.{SomePath}
 use Rattle.dt_model.specs.Widths.{Scope, is_width, width_at, tree_width, differs, has_unknown, has_mismatch, has_bad_range, uses, operators, depth, HasArities}
@@ -57,7 +57,7 @@ is_word w = w == 8 || (w == 16 || (w == 32 || w == 64))
 abbrev pub is_address : ℕ → Bool
 is_address a = nat_le 8 a && nat_le a 64
 
-abbrev pub HeaderBreaks : Data → ModelRefusal → Type 0
+abbrev pub HeaderBreaks : ModelData → ModelRefusal → Type 0
 HeaderBreaks d WidthRange = IsTrue (not (is_word d.word && is_address d.address))
 HeaderBreaks d NoNode = IsTrue (length d.nodes == 0)
 HeaderBreaks d _ = ⊥
@@ -80,11 +80,11 @@ NameBreaks limit i earlier n _ = ⊥
 -- ---- rules
 
 -- a context rule may name registers
-abbrev pub context_scope : Data → Scope
+abbrev pub context_scope : ModelData → Scope
 context_scope d = record { regs = d.regs; inputs = []; vars = [] }
 
 -- an access rule may name registers and inputs
-abbrev pub access_scope : Data → Scope
+abbrev pub access_scope : ModelData → Scope
 access_scope d = record { regs = d.regs; inputs = d.inputs; vars = [] }
 
 abbrev pub rule_operators : List Tree → ℕ
@@ -102,14 +102,14 @@ RuleBreaks s i before t _ = ⊥
 -- ---- nodes
 
 -- a node may name registers, inputs and variables
-abbrev pub node_scope : Data → Scope
+abbrev pub node_scope : ModelData → Scope
 node_scope d = record { regs = d.regs; inputs = d.inputs; vars = d.vars }
 
-abbrev pub steps : Data → List Step
+abbrev pub steps : ModelData → List ActData
 steps d = map (λ n. n.step) d.nodes
 
 -- the expression of a step
-abbrev pub tree_in : Step → Option Tree
+abbrev pub tree_in : ActData → Option Tree
 tree_in (bind x e n) = Some e
 tree_in (read x e g t o) = Some e
 tree_in (branch e t o) = Some e
@@ -117,14 +117,14 @@ tree_in (fault c) = None
 tree_in (done e p) = Some e
 
 -- the test holds of the step's expression
-abbrev pub on_tree : Step → (Tree → Bool) → Bool
+abbrev pub on_tree : ActData → (Tree → Bool) → Bool
 on_tree (bind x e n) f = f e
 on_tree (read x e g t o) f = f e
 on_tree (branch e t o) f = f e
 on_tree (fault c) f = false
 on_tree (done e p) f = f e
 
-abbrev pub step_operators : Step → ℕ
+abbrev pub step_operators : ActData → ℕ
 step_operators (bind x e n) = operators e
 step_operators (read x e g t o) = operators e
 step_operators (branch e t o) = operators e
@@ -132,13 +132,13 @@ step_operators (fault c) = 0
 step_operators (done e p) = operators e
 
 -- the variable that a step assigns
-abbrev pub assigned : Step → Option ℕ
+abbrev pub assigned : ActData → Option ℕ
 assigned (bind x e n) = Some x
 assigned (read x e g t o) = Some x
 assigned _ = None
 
 -- the nodes that a step names
-abbrev pub targets : Step → List ℕ
+abbrev pub targets : ActData → List ℕ
 targets (bind x e n) = n ∷ []
 targets (read x e g t o) = t ∷ o ∷ []
 targets (branch e t o) = t ∷ o ∷ []
@@ -149,13 +149,13 @@ any [] f = false
 any (n ∷ ns) f = f n || any ns f
 
 -- the variable that is assigned isn't declared
-abbrev pub var_unknown : ℕ → Step → Bool
+abbrev pub var_unknown : ℕ → ActData → Bool
 var_unknown count (bind x e n) = nat_le count x
 var_unknown count (read x e g t o) = nat_le count x
 var_unknown count _ = false
 
 -- a value, a cell, a test or pa, or the variable of a read, has another width than is asked
-abbrev pub step_mismatch : ℕ → ℕ → Scope → Step → Bool
+abbrev pub step_mismatch : ℕ → ℕ → Scope → ActData → Bool
 step_mismatch word address s (bind x e n) = differs (tree_width s e) (width_at s.vars x)
 step_mismatch word address s (read x e g t o) = differs (tree_width s e) (Some address) || differs (width_at s.vars x) (Some word)
 step_mismatch word address s (branch e t o) = differs (tree_width s e) (Some 1)
@@ -167,42 +167,42 @@ abbrev pub word_exponent : ℕ → ℕ
 word_exponent w = if w == 8 then 0 else (if w == 16 then 1 else (if w == 32 then 2 else 3))
 
 -- a granule, a code or a page exponent is out of its range
-abbrev pub step_range : ℕ → ℕ → Step → Bool
+abbrev pub step_range : ℕ → ℕ → ActData → Bool
 step_range word address (read x e g t o) = nat_lt g (word_exponent word) || nat_lt address g
 step_range word address (fault c) = nat_lt most_code c
 step_range word address (done e p) = nat_lt address p
 step_range word address _ = false
 
-abbrev pub is_read : Step → Bool
+abbrev pub is_read : ActData → Bool
 is_read (read x e g t o) = true
 is_read _ = false
 
-abbrev pub is_done : Step → Bool
+abbrev pub is_done : ActData → Bool
 is_done (done e p) = true
 is_done _ = false
 
-abbrev pub count_of : (Step → Bool) → List Spot → ℕ
+abbrev pub count_of : (ActData → Bool) → List NodeData → ℕ
 count_of f ns = count_by (λ n. f n.step) ns
 
-abbrev pub node_operators : List Spot → ℕ
+abbrev pub node_operators : List NodeData → ℕ
 node_operators ns = sum_by (λ n. step_operators n.step) ns
 
 -- the operators of all rules and of the first i nodes
-abbrev pub operators_to : Data → ℕ → ℕ
+abbrev pub operators_to : ModelData → ℕ → ℕ
 operators_to d i = rule_operators d.legal_context + rule_operators d.legal_access + node_operators (take i d.nodes)
 
 -- the step uses one of the declared variables, which some path leaves unassigned
-abbrev pub UsesLeft : List Step → ℕ → ℕ → Option Tree → Type 0
+abbrev pub UsesLeft : List ActData → ℕ → ℕ → Option Tree → Type 0
 UsesLeft g count i None = ⊥
 UsesLeft g count i (Some t) = (v : ℕ) × (v < count) × (uses t v ≡ true) × SomePath g i v false
 
 -- the step assigns one of the declared variables, which some path has assigned
-abbrev pub AssignsAgain : List Step → ℕ → ℕ → Option ℕ → Type 0
+abbrev pub AssignsAgain : List ActData → ℕ → ℕ → Option ℕ → Type 0
 AssignsAgain g count i None = ⊥
 AssignsAgain g count i (Some v) = (v < count) × SomePath g i v true
 
 -- the node at position i
-abbrev pub NodeBreaks : Data → ℕ → Spot → ModelRefusal → Type 0
+abbrev pub NodeBreaks : ModelData → ℕ → NodeData → ModelRefusal → Type 0
 NodeBreaks d i n NameTwice = IsTrue (is_named (map (λ m. m.name) (take i d.nodes)) n.name)
 NodeBreaks d i n UnknownName = IsTrue (on_tree n.step (has_unknown (node_scope d)) || var_unknown (length d.vars) n.step)
 NodeBreaks d i n WidthMismatch = IsTrue (on_tree n.step (has_mismatch (node_scope d)) || step_mismatch d.word d.address (node_scope d) n.step)
@@ -217,7 +217,7 @@ NodeBreaks d i n TooDeep = IsTrue (on_tree n.step (λ t. nat_lt most_depth (dept
 -- ---- the whole model
 
 -- the refusal applies at the place
-abbrev pub Breaks : Data → Place → ModelRefusal → Type 0
+abbrev pub Breaks : ModelData → Place → ModelRefusal → Type 0
 Breaks d Header r = HeaderBreaks d r
 Breaks d (Reg i) r = IsSomeAnd (slice_get d.regs i) (λ n. NameBreaks most_regs i (names_of (take i d.regs)) n r)
 Breaks d (Input i) r = IsSomeAnd (slice_get d.inputs i) (λ n. NameBreaks most_inputs i (names_of d.regs ++ names_of (take i d.inputs)) n r)
@@ -227,18 +227,18 @@ Breaks d (LegalAccess i) r = IsSomeAnd (slice_get d.legal_access i) (λ t. RuleB
 Breaks d (Node i) r = IsSomeAnd (slice_get d.nodes i) (λ n. NodeBreaks d i n r)
 
 -- accepted: no refusal applies anywhere
-abbrev pub IsAccepted : Data → Type 0
+abbrev pub IsAccepted : ModelData → Type 0
 IsAccepted d = (p : Place) (r : ModelRefusal) → Breaks d p r → ⊥
 
 -- refused at the first place where one applies, by the smallest there
-pub record IsRefused (d : Data) (p : Place) (r : ModelRefusal) : Type 0 where
+pub record IsRefused (d : ModelData) (p : Place) (r : ModelRefusal) : Type 0 where
   pub breaks : Breaks d p r
   pub smallest : (s : ModelRefusal) → number_of s < number_of r → Breaks d p s → ⊥
   pub first : (q : Place) (s : ModelRefusal) → IsTrue (comes_before q p) → Breaks d q s → ⊥
 
 -- ---- operands
 
-abbrev pub StepArities : Step → Type 0
+abbrev pub StepArities : ActData → Type 0
 StepArities (bind x e n) = HasArities e
 StepArities (read x e g t o) = HasArities e
 StepArities (branch e t o) = HasArities e
@@ -246,7 +246,7 @@ StepArities (fault c) = Unit {0}
 StepArities (done e p) = HasArities e
 
 -- each operator of the model has as many operands as it takes
-pub record HaveArities (d : Data) : Type 0 where
+pub record HaveArities (d : ModelData) : Type 0 where
   pub context : All HasArities d.legal_context
   pub access : All HasArities d.legal_access
   pub nodes : All (λ n. StepArities n.step) d.nodes

@@ -2,12 +2,12 @@
 use Rattle.std.specs.Prelude.{ℕ, zero, suc, Bool, true, false, not, ◌&&◌, ◌||◌, cond, eqb, ltb, List, Option, Some, None, slice_get, map}
 use Rattle.dt_model.specs.declared.model.Node.{Node}
 use Rattle.dt_model.specs.declared.flow.NodeSets.{NodeSets}
-use Rattle.dt_model.specs.Data.{Step, step_of}
+use Rattle.dt_model.specs.ModelData.{ActData, act_of}
 use Rattle.dt_model.specs.Paths.{Side, next, then, other, Exit, step_exit, is_var}
 use Rattle.dt_model.specs.Sets.{has}
 
-abbrev pub steps_of : List Node → List Step
-steps_of nodes = map (λ n. step_of n.act) nodes
+abbrev pub steps_of : List Node → List ActData
+steps_of nodes = map (λ n. act_of n.act) nodes
 
 -- v is among the variables that some path assigns (b is true), or leaves (b is false)
 abbrev pub found : NodeSets → ℕ → Bool → Bool
@@ -27,6 +27,6 @@ abbrev pub any_side : (Side → Bool) → Bool
 any_side f = f next || (f then || f other)
 
 -- the same of the paths whose last edge leaves a node below k
-unfoldable pub some_after : List Step → ℕ → ℕ → ℕ → Bool → Bool
+unfoldable pub some_after : List ActData → ℕ → ℕ → ℕ → Bool → Bool
 some_after g v zero n b = eqb n 0 && not b
 some_after g v (suc k) n b = some_after g v k n b || any_side (λ s. arrives (step_exit (slice_get g k) s) k n v b (some_after g v k k))

@@ -1,5 +1,5 @@
 pub mod Sets
-pub mod Data
+pub mod ModelData
 pub mod Spelled
 pub mod Paths
 pub mod Flow
@@ -8,9 +8,15 @@ pub mod Scopes
 pub mod Limits
 pub mod Faults
 pub mod Arities
-pub mod First
+pub mod Refusals
 pub mod Marks
 pub mod Accepted
 pub mod Values
-pub mod Seen
-pub mod Refusing
+pub mod Positions
+pub mod Bounds
+pub mod Prefix
+pub mod Errors
+pub mod Certificate
+pub mod Ground
+pub mod Refusal
+pub mod NameTable

@@ -1,7 +1,7 @@
 -- What the check's sets say of a step.
 use Rattle.std.specs.Prelude.{◌≡◌, ℕ, ◌<◌, true, Option, Some, None}
 use Rattle.dt_model.specs.declared.set.VarSet.{VarSet}
-use Rattle.dt_model.specs.Data.{Tree}
+use Rattle.dt_model.specs.ModelData.{Tree}
 use Rattle.dt_model.specs.Sets.{has}
 use Rattle.dt_model.specs.Widths.{uses}
 

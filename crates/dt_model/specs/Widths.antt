@@ -6,7 +6,7 @@ use Rattle.std.specs.List.{AllByRecursion}
 use Rattle.dt_bits.specs.Bits.{IsWidth}
 use Rattle.dt_bits.specs.Ops.{fits_at, width_of, arity_of}
 use Rattle.dt_model.specs.declared.model.Named.{Named}
-use Rattle.dt_model.specs.Data.{Tree, value, reg, input, var, apply1, apply2, apply3}
+use Rattle.dt_model.specs.ModelData.{Tree, value, reg, input, var, apply1, apply2, apply3}
 
 -- what an expression may name
 pub record Scope : Type 0 where

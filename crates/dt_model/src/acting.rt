@@ -1,13 +1,14 @@
 ghost use Rattle.std.specs.Prelude.{◌≡◌, ◌↔◌, ℕ, ◌+◌, ◌<◌, ◌≤◌, Bool, true, false, not, ◌&&◌, ◌||◌, ◌==◌, nat_lt, nat_le, min, List, length, Option, Some, None, IsTrue};
-ghost use Rattle.dt_model.specs.Data.{step_of};
+ghost use Rattle.dt_model.specs.ModelData.{act_of};
 ghost use Rattle.dt_model.specs.Scopes.{scope_of};
 ghost use Rattle.dt_model.specs.Sets.{has};
 ghost use Rattle.dt_model.specs.Flow.{found};
 ghost use Rattle.dt_model.specs.Widths.{has_unknown, has_mismatch, has_bad_range, uses, depth, HasArities, AreWidths};
 ghost use Rattle.dt_model.specs.Faults.{on_tree, tree_in, var_unknown, step_mismatch, step_range, step_operators, targets, any, assigned, word_exponent, StepArities};
-ghost use Rattle.dt_model.specs.First.{IsSmallest, flag};
+ghost use Rattle.dt_model.specs.Refusals.{IsSmallest, flag};
 ghost use Rattle.dt_model.specs.Marks.{UsesOf, AssignsOf};
 
+use crate::limits::{GREATEST_CODE, MOST_DEPTH};
 use crate::measuring::{differ, measure, width_of_name};
 use crate::set::VarSet;
 use crate::surveying::{depth_of, names_unknown, operators_in, uses_any};
@@ -15,7 +16,7 @@ use crate::{Act, Names};
 
 /// Whether the act names a position outside its list.
 pub fn act_unknown(act: &Act, names: &Names) -> bool
-    ensures { result ≡ (on_tree (step_of act.now) (has_unknown (scope_of names.now)) || var_unknown (length names.now.vars.now) (step_of act.now)) }
+    ensures { result ≡ (on_tree (act_of act.now) (has_unknown (scope_of names.now)) || var_unknown (length names.now.vars.now) (act_of act.now)) }
 {
     match act {
         Act::Let { var, value, .. } => names_unknown(value, names)
@@ -30,11 +31,11 @@ pub fn act_unknown(act: &Act, names: &Names) -> bool
 
 /// Whether something in the act has another width than is asked.
 pub fn act_mismatch(act: &Act, names: &Names, word: u32, address: u32) -> bool
-    requires arities { StepArities (step_of act.now) }
+    requires arities { StepArities (act_of act.now) }
     requires regs { AreWidths names.now.regs.now }
     requires inputs { AreWidths names.now.inputs.now }
     requires vars { AreWidths names.now.vars.now }
-    ensures { result ≡ (on_tree (step_of act.now) (has_mismatch (scope_of names.now)) || step_mismatch word address (scope_of names.now) (step_of act.now)) }
+    ensures { result ≡ (on_tree (act_of act.now) (has_mismatch (scope_of names.now)) || step_mismatch word address (scope_of names.now) (act_of act.now)) }
 {
     match act {
         Act::Let { var, value, .. } => {
@@ -76,11 +77,11 @@ fn exponent(word: u32) -> u32
 
 /// Whether a number of bits, a constant, a code, a granule or a page exponent is out of its range.
 pub fn act_range(act: &Act, names: &Names, word: u32, address: u32) -> bool
-    requires arities { StepArities (step_of act.now) }
+    requires arities { StepArities (act_of act.now) }
     requires regs { AreWidths names.now.regs.now }
     requires inputs { AreWidths names.now.inputs.now }
     requires vars { AreWidths names.now.vars.now }
-    ensures { result ≡ (on_tree (step_of act.now) (has_bad_range (scope_of names.now)) || step_range word address (step_of act.now)) }
+    ensures { result ≡ (on_tree (act_of act.now) (has_bad_range (scope_of names.now)) || step_range word address (act_of act.now)) }
 {
     match act {
         Act::Let { value, .. } => measure(value, names).range,
@@ -88,7 +89,7 @@ pub fn act_range(act: &Act, names: &Names, word: u32, address: u32) -> bool
             measure(cell, names).range || *granule < exponent(word) || address < *granule
         }
         Act::If { test, .. } => measure(test, names).range,
-        Act::Fault { code } => *code > 65535,
+        Act::Fault { code } => *code > GREATEST_CODE,
         Act::Done { pa, page } => measure(pa, names).range || address < *page,
     }
 }
@@ -101,7 +102,7 @@ fn is_back(to: u32, i: usize, count: usize) -> bool
 
 /// Whether a target is a node that isn't later than node `i` of so many.
 pub fn act_back(act: &Act, i: usize, count: usize) -> bool
-    ensures { result ≡ any (targets (step_of act.now)) (λ t. nat_lt t count && nat_le t i) }
+    ensures { result ≡ any (targets (act_of act.now)) (λ t. nat_lt t count && nat_le t i) }
 {
     match act {
         Act::Let { next, .. } => is_back(*next, i, count),
@@ -114,7 +115,7 @@ pub fn act_back(act: &Act, i: usize, count: usize) -> bool
 
 /// Whether a target is no node of so many.
 pub fn act_no_node(act: &Act, count: usize) -> bool
-    ensures { result ≡ any (targets (step_of act.now)) (λ t. nat_le count t) }
+    ensures { result ≡ any (targets (act_of act.now)) (λ t. nat_le count t) }
 {
     match act {
         Act::Let { next, .. } => count <= *next as usize,
@@ -127,7 +128,7 @@ pub fn act_no_node(act: &Act, count: usize) -> bool
 /// Whether the act uses one of the first variables that the set has.
 pub fn act_left(act: &Act, left: &VarSet, count: u32) -> bool
     requires { count ≤ 512 }
-    ensures { IsTrue result ↔ UsesOf left.now count (tree_in (step_of act.now)) }
+    ensures { IsTrue result ↔ UsesOf left.now count (tree_in (act_of act.now)) }
 {
     match act {
         Act::Let { value, .. } => uses_any(value, left, count),
@@ -141,7 +142,7 @@ pub fn act_left(act: &Act, left: &VarSet, count: u32) -> bool
 /// Whether the act assigns one of the first variables that the set has.
 pub fn act_again(act: &Act, set: &VarSet, count: u32) -> bool
     requires { count ≤ 512 }
-    ensures { IsTrue result ↔ AssignsOf set.now count (assigned (step_of act.now)) }
+    ensures { IsTrue result ↔ AssignsOf set.now count (assigned (act_of act.now)) }
 {
     match act {
         Act::Let { var, .. } | Act::Read { var, .. } => *var < count && set.contains(*var),
@@ -151,7 +152,7 @@ pub fn act_again(act: &Act, set: &VarSet, count: u32) -> bool
 
 /// The operators of the act's expression, or 65 where there are more than 64.
 pub fn act_operators(act: &Act) -> u32
-    ensures { result ≡ min (step_operators (step_of act.now)) 65 }
+    ensures { result ≡ min (step_operators (act_of act.now)) 65 }
 {
     match act {
         Act::Let { value, .. } => operators_in(value),
@@ -162,15 +163,15 @@ pub fn act_operators(act: &Act) -> u32
     }
 }
 
-/// Whether the act's expression has more than 32 operators on one way from its root.
+/// Whether the act's expression has more than `MOST_DEPTH` operators on one way from its root.
 pub fn act_deep(act: &Act) -> bool
-    ensures { result ≡ on_tree (step_of act.now) (λ t. nat_lt 32 (depth t)) }
+    ensures { result ≡ on_tree (act_of act.now) (λ t. nat_lt 32 (depth t)) }
 {
     match act {
-        Act::Let { value, .. } => depth_of(value) > 32,
-        Act::Read { cell, .. } => depth_of(cell) > 32,
-        Act::If { test, .. } => depth_of(test) > 32,
+        Act::Let { value, .. } => depth_of(value) > MOST_DEPTH,
+        Act::Read { cell, .. } => depth_of(cell) > MOST_DEPTH,
+        Act::If { test, .. } => depth_of(test) > MOST_DEPTH,
         Act::Fault { .. } => false,
-        Act::Done { pa, .. } => depth_of(pa) > 32,
+        Act::Done { pa, .. } => depth_of(pa) > MOST_DEPTH,
     }
 }

@@ -1,7 +1,7 @@
 ghost use Rattle.std.specs.Prelude.{◌≡◌, ◌+◌, ◌≤◌, IfOk};
-ghost use Rattle.dt_model.specs.Data.{data_of};
+ghost use Rattle.dt_model.specs.ModelData.{data_of};
 ghost use Rattle.dt_model.specs.Faults.{HaveArities, rule_operators};
-ghost use Rattle.dt_model.specs.First.{Passes, IsFirstTo};
+ghost use Rattle.dt_model.specs.Refusals.{Passes, IsFirstTo};
 
 use crate::declared::declared_fault;
 use crate::graph::nodes_fault;
@@ -47,10 +47,11 @@ fn first_fault(alloc: Global, m: &Model) -> Result<Option<(Place, ModelRefusal)>
 
 impl Model {
     ghost use Rattle.std.specs.Prelude.{◌≡◌, IfOk, IfErr};
-    ghost use Rattle.dt_model.specs.Data.{data_of};
+    ghost use Rattle.dt_model.specs.ModelData.{data_of};
     ghost use Rattle.dt_model.specs.Faults.{HaveArities, IsAccepted};
     ghost use Rattle.dt_model.specs.Accepted.{accepted_data};
-    ghost use Rattle.dt_model.specs.Refusing.{IsError};
+    ghost use Rattle.dt_model.specs.Spelled.{HaveNames};
+    ghost use Rattle.dt_model.specs.Errors.{IsError};
 
     /// Accepts the model, or refuses it at the first place that is at fault, with the smallest
     /// refusal there. A refused model is dropped.
@@ -60,9 +61,10 @@ impl Model {
     ///
     /// # Errors
     ///
-    /// `Refused` exactly where the model isn't accepted, and `Memory` where memory is wanting.
+    /// `Refused` exactly where the model isn't accepted, and `Memory` where memory ran out.
     pub fn check(self, alloc: Global) -> Result<Accepted, ModelError>
-        requires { HaveArities (data_of self) }
+        requires arities { HaveArities (data_of self) }
+        requires names { HaveNames (data_of self) }
         ensures accepted { IfOk result (λ a. IsAccepted (data_of self)) }
         ensures same { IfOk result (λ a. accepted_data a ≡ data_of self) }
         ensures refused { IfErr result (IsError (data_of self)) }

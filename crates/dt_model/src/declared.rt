@@ -1,8 +1,9 @@
 ghost use Rattle.std.specs.Prelude.{◌≡◌, [], ◌++◌, IfOk, IfNone};
-ghost use Rattle.dt_model.specs.Data.{data_of};
+ghost use Rattle.dt_model.specs.ModelData.{data_of};
 ghost use Rattle.dt_model.specs.Faults.{names_of};
-ghost use Rattle.dt_model.specs.First.{Passes, IsFirstTo};
+ghost use Rattle.dt_model.specs.Refusals.{Passes, IsFirstTo};
 
+use crate::limits::{MOST_INPUTS, MOST_REGS, MOST_VARS};
 use crate::naming::names_fault;
 use crate::{Model, ModelRefusal, Place};
 use dt_lex::Name;
@@ -19,7 +20,7 @@ fn regs_fault(
     ensures fault { IfOk result (IsFirstTo (data_of m.now) 2) }
     ensures declared { IfOk result (λ f. IfNone f (declared.new.keys ≡ names_of m.now.regs)) }
 {
-    match names_fault(declared, 32, m.regs.as_slice())? {
+    match names_fault(declared, MOST_REGS, m.regs.as_slice())? {
         Some((i, refusal)) => Ok(Some((Place::Reg(i), refusal))),
         None => Ok(None),
     }
@@ -35,7 +36,7 @@ fn inputs_fault(
     ensures fault { IfOk result (IsFirstTo (data_of m.now) 3) }
     ensures declared { IfOk result (λ f. IfNone f (declared.new.keys ≡ names_of m.now.regs ++ names_of m.now.inputs)) }
 {
-    match names_fault(declared, 16, m.inputs.as_slice())? {
+    match names_fault(declared, MOST_INPUTS, m.inputs.as_slice())? {
         Some((i, refusal)) => Ok(Some((Place::Input(i), refusal))),
         None => Ok(None),
     }
@@ -50,7 +51,7 @@ fn vars_fault(
     requires named { declared.old.keys ≡ names_of m.now.regs ++ names_of m.now.inputs }
     ensures { IfOk result (IsFirstTo (data_of m.now) 4) }
 {
-    match names_fault(declared, 512, m.vars.as_slice())? {
+    match names_fault(declared, MOST_VARS, m.vars.as_slice())? {
         Some((i, refusal)) => Ok(Some((Place::Var(i), refusal))),
         None => Ok(None),
     }

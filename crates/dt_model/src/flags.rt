@@ -1,5 +1,5 @@
 ghost use Rattle.std.specs.Prelude.{IsTrue};
-ghost use Rattle.dt_model.specs.First.{IsSmallest, flag};
+ghost use Rattle.dt_model.specs.Refusals.{IsSmallest, flag};
 
 use crate::ModelRefusal;
 

@@ -1,9 +1,10 @@
 ghost use Rattle.std.specs.Prelude.{◌≡◌, ℕ, ◌+◌, ◌<◌, ◌≤◌, min, ◌==◌, ◌&&◌, ◌||◌, ◌↔◌, Bool, not, true, false, cond, eqb, ltb, Option, Some, None, length, map, All, IfOk, IsTrue, slice_index_or};
 ghost use Rattle.dt_model.specs.declared.flow.NodeSets.{NodeSets as Sets};
-ghost use Rattle.dt_model.specs.Data.{step_of};
+ghost use Rattle.dt_model.specs.ModelData.{act_of};
 ghost use Rattle.dt_model.specs.Paths.{exit, SomePath};
 ghost use Rattle.dt_model.specs.Flow.{found, past, arrives, any_side, steps_of};
 
+use crate::limits::MOST_VARS;
 use crate::set::VarSet;
 use crate::{Act, Node};
 use std::alloc::{AllocError, Global};
@@ -20,7 +21,7 @@ fn passed(sets: &NodeSets, assigns: Option<u32>) -> NodeSets
     ensures { (v : ℕ) (b : Bool) → v < 512 → found result v b ≡ past assigns v b (found sets.now v) }
 {
     match assigns {
-        Some(var) if var < 512 => {
+        Some(var) if var < MOST_VARS => {
             let reached = sets.left.contains(var) || sets.assigned.contains(var);
             let left = sets.left.without(var);
             let assigned = if reached {
@@ -59,7 +60,7 @@ fn lead(sets: &mut [NodeSets], from: usize, to: u32, assigns: Option<u32>)
 /// The sets past the node's edges.
 fn follow(sets: &mut [NodeSets], from: usize, act: &Act)
     requires { from < length sets.old }
-    ensures { (n v : ℕ) (b : Bool) (d : Sets) → n < length sets.old → v < 512 → found (slice_index_or sets.new n d) v b ≡ (found (slice_index_or sets.old n d) v b || any_side (λ s. arrives (exit (step_of act.now) s) from n v b (found (slice_index_or sets.old from d) v))) }
+    ensures { (n v : ℕ) (b : Bool) (d : Sets) → n < length sets.old → v < 512 → found (slice_index_or sets.new n d) v b ≡ (found (slice_index_or sets.old n d) v b || any_side (λ s. arrives (exit (act_of act.now) s) from n v b (found (slice_index_or sets.old from d) v))) }
 {
     match act {
         Act::Let { var, next, .. } => lead(sets, from, *next, Some(*var)),

@@ -1,8 +1,8 @@
 ghost use Rattle.std.specs.Prelude.{◌≡◌};
-ghost use Rattle.dt_model.specs.Data.{data_of};
+ghost use Rattle.dt_model.specs.ModelData.{data_of};
 ghost use Rattle.dt_model.specs.declared.refusal.Place.TheVariants.{Header};
 ghost use Rattle.dt_model.specs.Faults.{Breaks, is_word, is_address};
-ghost use Rattle.dt_model.specs.First.{IsSmallest};
+ghost use Rattle.dt_model.specs.Refusals.{IsSmallest};
 
 use crate::{Model, ModelRefusal};
 

@@ -1,7 +1,7 @@
 ghost use Rattle.std.specs.Prelude.{◌≡◌, ◌+◌, ◌≤◌, IfOk, IfErr};
-ghost use Rattle.dt_model.specs.Data.{data_of};
+ghost use Rattle.dt_model.specs.ModelData.{data_of};
 ghost use Rattle.dt_model.specs.Faults.{HaveArities, IsRefused, rule_operators};
-ghost use Rattle.dt_model.specs.First.{Passes};
+ghost use Rattle.dt_model.specs.Refusals.{Passes};
 
 use crate::rules::rules_fault;
 use crate::{Model, ModelRefusal, Names, Place};

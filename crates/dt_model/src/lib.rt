@@ -9,17 +9,17 @@
 //! two rules on paths (a variable that is used is assigned on every path; none is assigned twice)
 //! speak of all paths from node 0 over edges to later nodes; the code keeps two sets of variables
 //! for each node. Want of memory alone may come in place of an answer. `Accepted` carries that it
-//! is accepted, and that each operator has as many operands as it takes.
+//! is accepted, that each operator has as many operands as it takes, and that each name is spelled.
+//! A fixed model needs no check where its builder proves a certificate: `Accepted::certified`.
 //!
 //! Cost: linear in the names, in the operators of the expressions, and in the edges times four words
 //! of 128 bits (one bit for each of 512 variables); names are looked up by their hash. Sets are
 //! kept for 1025 nodes at most.
-//!
-//! Only tested: that memory suffices for a small model.
 #![tactic(auto)]
 
 mod accepted;
 mod acting;
+mod bounds;
 mod checking;
 mod declared;
 mod expr;
@@ -28,21 +28,27 @@ mod flow;
 mod graph;
 mod header;
 mod legal;
+mod limits;
 mod measuring;
 mod model;
+mod name_table;
 mod names;
 mod naming;
 mod node;
+mod positions;
+mod prefix;
 mod refusal;
 mod rules;
-mod seen;
 mod set;
 mod surveying;
 #[cfg(test)]
 mod tests;
 
 pub use accepted::Accepted;
+pub use bounds::{bounds_fit, word_bytes};
 pub use expr::Expr;
 pub use model::{Act, Model, Named, Node};
+pub use name_table::NameTable;
 pub use names::Names;
+pub use positions::{is_named, position_of};
 pub use refusal::{ModelError, ModelRefusal, Place};

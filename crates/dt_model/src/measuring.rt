@@ -1,6 +1,6 @@
 ghost use Rattle.std.specs.Prelude.{◌≡◌, ℕ, ◌+◌, ◌≤◌, false};
 ghost use Rattle.dt_bits.specs.Ops.{arity_of};
-ghost use Rattle.dt_model.specs.Data.{tree_of};
+ghost use Rattle.dt_model.specs.ModelData.{tree_of};
 ghost use Rattle.dt_model.specs.Scopes.{scope_of};
 ghost use Rattle.dt_model.specs.Widths.{is_constant, width_at, fitted, tree_width, mismatch, out_of_range, has_mismatch, has_bad_range, HasArities, IsWidthOrNone, AreWidths, differs, is_below, is_above, too_wide};
 

@@ -2,7 +2,7 @@ ghost use Rattle.std.specs.Prelude.{◌≡◌, ◌+◌, ◌<◌, ◌≤◌, true
 ghost use Rattle.indexmap.specs.IndexSet.{contains};
 ghost use Rattle.dt_lex.specs.declared.name.Name.{Name};
 ghost use Rattle.dt_model.specs.Faults.{is_named, names_of, NameBreaks};
-ghost use Rattle.dt_model.specs.First.{IsSmallest, IsFirst, NamesBreak};
+ghost use Rattle.dt_model.specs.Refusals.{IsSmallest, IsFirst, NamesBreak};
 
 use crate::{ModelRefusal, Named};
 use dt_lex::Name;

@@ -1,13 +1,13 @@
 ghost use Rattle.std.specs.Prelude.{◌≡◌, ◌↔◌, ℕ, ◌+◌, ◌<◌, ◌≤◌, Bool, true, false, not, ◌&&◌, ◌||◌, ◌==◌, nat_lt, nat_le, List, map, take, length, Option, Some, None, IsTrue, slice_index_or};
 ghost use Rattle.dt_model.specs.declared.flow.NodeSets.{NodeSets as Sets};
 ghost use Rattle.dt_model.specs.declared.model.Node.{Node as Given};
-ghost use Rattle.dt_model.specs.Data.{step_of, data_of, spot_of, Data};
+ghost use Rattle.dt_model.specs.ModelData.{data_of, node_of, ModelData};
 ghost use Rattle.dt_model.specs.Flow.{found};
 ghost use Rattle.dt_model.specs.declared.refusal.ModelRefusal.TheVariants.{NameTwice, TooMany};
 ghost use Rattle.dt_model.specs.Paths.{SomePath};
-ghost use Rattle.dt_model.specs.Widths.{AreWidths};
-ghost use Rattle.dt_model.specs.Faults.{NodeBreaks, StepArities, steps};
-ghost use Rattle.dt_model.specs.First.{IsSmallest, flag, Tells, SetsTell};
+ghost use Rattle.dt_model.specs.Faults.{NodeBreaks, steps};
+ghost use Rattle.dt_model.specs.Ground.{IsDeclared};
+ghost use Rattle.dt_model.specs.Refusals.{IsSmallest, flag, Tells, SetsTell};
 
 use crate::acting::{
     act_again, act_back, act_deep, act_left, act_mismatch, act_no_node, act_range, act_unknown,
@@ -19,15 +19,11 @@ use crate::{Model, Names};
 /// Which refusals apply at a node.
 pub fn node_flags(m: &Model, i: usize, sets: &NodeSets, taken: bool, too_many: bool) -> Flags
     requires within { i < length m.now.nodes }
-    requires vars { length m.now.vars ≤ 512 }
-    requires arities { (d : Given) → StepArities (step_of (slice_index_or m.now.nodes i d).act) }
-    requires regs_wide { AreWidths m.now.regs }
-    requires inputs_wide { AreWidths m.now.inputs }
-    requires vars_wide { AreWidths m.now.vars }
+    requires declared { IsDeclared m.now }
     requires sets { SetsTell (data_of m.now) i sets.now }
-    requires named { (d : Given) → IsTrue taken ↔ NodeBreaks (data_of m.now) i (spot_of (slice_index_or m.now.nodes i d)) NameTwice }
-    requires many { (d : Given) → IsTrue too_many ↔ NodeBreaks (data_of m.now) i (spot_of (slice_index_or m.now.nodes i d)) TooMany }
-    ensures { (d : Given) → Tells result (NodeBreaks (data_of m.now) i (spot_of (slice_index_or m.now.nodes i d))) }
+    requires named { (d : Given) → IsTrue taken ↔ NodeBreaks (data_of m.now) i (node_of (slice_index_or m.now.nodes i d)) NameTwice }
+    requires many { (d : Given) → IsTrue too_many ↔ NodeBreaks (data_of m.now) i (node_of (slice_index_or m.now.nodes i d)) TooMany }
+    ensures { (d : Given) → Tells result (NodeBreaks (data_of m.now) i (node_of (slice_index_or m.now.nodes i d))) }
 {
     let names = Names {
         regs: m.regs.as_slice(),

@@ -1,4 +1,5 @@
 use std::alloc::AllocError;
+use std::fmt;
 
 /// Why a model is refused. At one place the refusal that stands first here is given.
 #[derive(Clone, Copy, Debug, PartialEq, Eq)]
@@ -27,6 +28,35 @@ pub enum ModelRefusal {
     TooDeep,
 }
 
+impl ModelRefusal {
+    ghost use Rattle.std.specs.Prelude.{◌≡◌};
+    ghost use Rattle.dt_model.specs.Refusal.{refusal_word};
+
+    /// The word of the refusal in a printed line.
+    pub fn word(self) -> &'static str
+        ensures { result.now ≡ refusal_word self }
+    {
+        match self {
+            ModelRefusal::NameTwice => "name-twice",
+            ModelRefusal::UnknownName => "unknown-name",
+            ModelRefusal::WidthMismatch => "width-mismatch",
+            ModelRefusal::WidthRange => "width-range",
+            ModelRefusal::BackEdge => "back-edge",
+            ModelRefusal::Unassigned => "unassigned",
+            ModelRefusal::AssignedTwice => "assigned-twice",
+            ModelRefusal::NoNode => "no-node",
+            ModelRefusal::TooMany => "too-many",
+            ModelRefusal::TooDeep => "too-deep",
+        }
+    }
+}
+
+impl fmt::Display for ModelRefusal {
+    fn fmt<W: fmt::Write>(&self, f: &mut fmt::Formatter<W>) -> fmt::Result {
+        f.write_str(self.word())
+    }
+}
+
 /// Where a model is refused, in this order; positions count from 0.
 #[derive(Clone, Copy, Debug, PartialEq, Eq)]
 pub enum Place {
@@ -42,7 +72,7 @@ pub enum Place {
 /// Why a check gave no accepted model.
 #[derive(Clone, Copy, Debug, PartialEq, Eq)]
 pub enum ModelError {
-    /// Memory was wanting.
+    /// Memory ran out.
     Memory,
     /// The model is refused: the first place that is at fault, and the first refusal there.
     Refused { refusal: ModelRefusal, place: Place },
@@ -56,5 +86,14 @@ impl From<AllocError> for ModelError {
 
     fn from(_: AllocError) -> ModelError {
         ModelError::Memory
+    }
+}
+
+impl fmt::Display for ModelError {
+    fn fmt<W: fmt::Write>(&self, f: &mut fmt::Formatter<W>) -> fmt::Result {
+        match self {
+            ModelError::Memory => f.write_str("memory ran out"),
+            ModelError::Refused { refusal, .. } => write!(f, "refused: {refusal}"),
+        }
     }
 }

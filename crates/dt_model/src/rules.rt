@@ -1,11 +1,12 @@
 ghost use Rattle.std.specs.Prelude.{◌≡◌, ◌+◌, ◌<◌, ◌≤◌, ℕ, map, IfOk, IfErr, Some, None};
 ghost use Rattle.std.specs.List.{All};
-ghost use Rattle.dt_model.specs.Data.{tree_of};
+ghost use Rattle.dt_model.specs.ModelData.{tree_of};
 ghost use Rattle.dt_model.specs.Scopes.{scope_of};
 ghost use Rattle.dt_model.specs.Widths.{HasArities, AreWidths};
 ghost use Rattle.dt_model.specs.Faults.{RuleBreaks, rule_operators};
-ghost use Rattle.dt_model.specs.First.{IsSmallest, IsFirst, RulesBreak};
+ghost use Rattle.dt_model.specs.Refusals.{IsSmallest, IsFirst, RulesBreak};
 
+use crate::limits::{MOST_DEPTH, MOST_MODEL_OPERATORS, MOST_OPERATORS, MOST_RULES};
 use crate::measuring::{differ, measure};
 use crate::surveying::{depth_of, names_unknown, operators_in};
 use crate::{Expr, ModelRefusal, Names};
@@ -27,9 +28,12 @@ fn rule_fault(i: usize, rule: &Expr, names: &Names, before: u32) -> Option<Model
         Some(ModelRefusal::WidthMismatch)
     } else if measured.range {
         Some(ModelRefusal::WidthRange)
-    } else if i >= 32 || operators > 64 || before + operators > 8192 {
+    } else if i >= MOST_RULES
+        || operators > MOST_OPERATORS
+        || before + operators > MOST_MODEL_OPERATORS
+    {
         Some(ModelRefusal::TooMany)
-    } else if depth_of(rule) > 32 {
+    } else if depth_of(rule) > MOST_DEPTH {
         Some(ModelRefusal::TooDeep)
     } else {
         None

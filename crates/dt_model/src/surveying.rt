@@ -1,5 +1,5 @@
 ghost use Rattle.std.specs.Prelude.{◌≡◌, ◌↔◌, ℕ, ◌<◌, ◌≤◌, true, min, IsTrue};
-ghost use Rattle.dt_model.specs.Data.{tree_of};
+ghost use Rattle.dt_model.specs.ModelData.{tree_of};
 ghost use Rattle.dt_model.specs.Scopes.{scope_of};
 ghost use Rattle.dt_model.specs.Sets.{has};
 ghost use Rattle.dt_model.specs.Widths.{has_unknown, uses, operators, depth};

@@ -8,9 +8,9 @@ use Rattle.dt_bits.specs.declared.op.Op.{Op}
 use Rattle.dt_bits.specs.declared.op.Op.TheVariants.{Const, Not, And, Or, Xor, Add, Sub, Slice, Concat, SignExt, Shl, Shr, Eq, Ltu, Ite}
 use Rattle.dt_lex.specs.Names.{name_of}
 use Rattle.dt_lex.specs.Numeral.{number_of, digits_read}
-use Rattle.dt_model.specs.Data.{Tree, value, reg, input, var, apply1, apply2, apply3}
+use Rattle.dt_model.specs.ModelData.{Tree, value, reg, input, var, apply1, apply2, apply3}
 use Rattle.dt_model.specs.Widths.{depth}
-use Rattle.dt_modeltext.specs.Expr.{Names, small_of, decimal_of, constant_of, atom_of}
+use Rattle.dt_modeltext.specs.Expr.{Positions, small_of, decimal_of, constant_of, atom_of}
 use Rattle.dt_modeltext.specs.Depth.{unclosed, opens_above}
 use Rattle.dt_modeltext.specs.Spelling.{SpellsOperator, SpellsAtom, Spells}
 
@@ -61,7 +61,7 @@ number_inert : (t : List ℕ) (n : ℕ) → small_of t ≡ Some n → IsInert t
 unfolding small_of number_of digits_read
 number_inert t n h = (is_not small_of (codes "(") t (Some n) (λ e. absurd cc) h, is_not small_of (codes ")") t (Some n) (λ e. absurd cc) h)
 
-atom_inert : (s : Names) (e : Tree) (t : List ℕ) → atom_of s t ≡ Some e → IsInert t
+atom_inert : (s : Positions) (e : Tree) (t : List ℕ) → atom_of s t ≡ Some e → IsInert t
 unfolding atom_of name_of constant_of decimal_of small_of number_of digits_read
 atom_inert s e t h = (is_not (atom_of s) (codes "(") t (Some e) (λ e. absurd cc) h, is_not (atom_of s) (codes ")") t (Some e) (λ e. absurd cc) h)
 
@@ -106,10 +106,10 @@ closed_left n os ts h k =
 left_two : (n : ℕ) (ts us : Tokens) → left n ts ≡ n → left n us ≡ n → left n (ts ++ us) ≡ n
 left_two n ts us h k = left_append n ts us ∙ ap (λ (m : ℕ). left m us) h ∙ k
 
-atom_left : (n : ℕ) (s : Names) (e : Tree) (ts : Tokens) → SpellsAtom s e ts → left n ts ≡ n
+atom_left : (n : ℕ) (s : Positions) (e : Tree) (ts : Tokens) → SpellsAtom s e ts → left n ts ≡ n
 atom_left n s e ts h = word_left n h.0 ts (atom_inert s e h.0 h.1) h.2
 
-expr_left : (s : Names) (e : Tree) (n : ℕ) (ts : Tokens) → Spells s e ts → left n ts ≡ n
+expr_left : (s : Positions) (e : Tree) (n : ℕ) (ts : Tokens) → Spells s e ts → left n ts ≡ n
 unfolding Spells
 expr_left s (value w k) n ts h = atom_left n s (value w k) ts h
 expr_left s (reg i) n ts h = atom_left n s (reg i) ts h
@@ -150,10 +150,10 @@ inside most n op os us after word h =
     }
 
 -- behind an operand, as much is unclosed as before it
-next : (s : Names) (e : Tree) (most n : ℕ) (ts us : Tokens) → Spells s e ts → opens_above most n (ts ++ us) ≡ false → opens_above most n us ≡ false
+next : (s : Positions) (e : Tree) (most n : ℕ) (ts us : Tokens) → Spells s e ts → opens_above most n (ts ++ us) ≡ false → opens_above most n us ≡ false
 next s e most n ts us h flat = ap (λ (m : ℕ). opens_above most m us) (sym (expr_left s e n ts h)) ∙ behind most n ts us flat
 
-pub is_shallow : (s : Names) (e : Tree) (most n : ℕ) (ts after : Tokens) → Spells s e ts → n ≤ most → opens_above most n (ts ++ after) ≡ false → n + depth e ≤ most
+pub is_shallow : (s : Positions) (e : Tree) (most n : ℕ) (ts after : Tokens) → Spells s e ts → n ≤ most → opens_above most n (ts ++ after) ≡ false → n + depth e ≤ most
 unfolding Spells
 is_shallow s (value w k) most n ts after h le flat = omega arith
 is_shallow s (reg i) most n ts after h le flat = omega arith
@@ -194,6 +194,6 @@ left_fits most n (t ∷ ts) us le flat =
     let parts = or_false _ _ flat in
     left_fits most (unclosed n t) ts us (ltb-false most (unclosed n t) parts.0) parts.1
 
-pub is_shallow_in : (s : Names) (e : Tree) (most : ℕ) (before ts after : Tokens) → Spells s e ts → opens_above most 0 (before ++ (ts ++ after)) ≡ false → depth e ≤ most
+pub is_shallow_in : (s : Positions) (e : Tree) (most : ℕ) (before ts after : Tokens) → Spells s e ts → opens_above most 0 (before ++ (ts ++ after)) ≡ false → depth e ≤ most
 is_shallow_in s e most before ts after h flat =
     omega (arith, is_shallow s e most (left 0 before) ts after h (left_fits most 0 before (ts ++ after) (omega arith) flat) (behind most 0 before (ts ++ after) flat))

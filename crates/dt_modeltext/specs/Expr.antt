@@ -9,7 +9,7 @@ use Rattle.dt_bits.specs.Ops.{arity_of}
 use Rattle.dt_lex.specs.declared.name.Name.{Name}
 use Rattle.dt_lex.specs.Names.{name_of}
 use Rattle.dt_lex.specs.Numeral.{is_hex, number_of}
-use Rattle.dt_model.specs.Data.{Tree, value, reg, input, var, apply1, apply2, apply3}
+use Rattle.dt_model.specs.ModelData.{Tree, value, reg, input, var, apply1, apply2, apply3}
 
 infixl 10 ◌>>=◌
 abbrev pub ◌>>=◌ : {A B : Type 0} → Option A → (A → Option B) → Option B
@@ -44,39 +44,39 @@ abbrev pub unknown : ℕ
 unknown = 2 ^ 32 - 1
 
 -- the positions that names have as registers, inputs, variables and nodes
-pub record Names : Type 0 where
+pub record Positions : Type 0 where
   pub regs : Name → Option ℕ
   pub inputs : Name → Option ℕ
   pub vars : Name → Option ℕ
   pub nodes : Name → Option ℕ
 
 -- a register, else an input, else a variable; a name that isn't declared is read as the register at no position
-unfoldable pub named : Names → Name → Tree
+unfoldable pub named : Positions → Name → Tree
 named s n = option_map_or reg (s.regs n) (option_map_or input (s.inputs n) (option_map_or var (s.vars n) (reg unknown)))
 
 -- a name, or else a constant
-abbrev pub named_or : Names → Option Tree → Option Name → Option Tree
+abbrev pub named_or : Positions → Option Tree → Option Name → Option Tree
 named_or s other None = other
 named_or s other (Some n) = Some (named s n)
 
-unfoldable pub atom_of : Names → List ℕ → Option Tree
+unfoldable pub atom_of : Positions → List ℕ → Option Tree
 atom_of s t = named_or s (constant_of t) (name_of t)
 
 -- ---- tokens from the front
 
 -- what the front of some tokens spells, and the tokens after it
-abbrev pub Read : Type 0 → Type 0
-Read X = Option (X × List (List ℕ))
+abbrev pub Front : Type 0 → Type 0
+Front X = Option (X × List (List ℕ))
 
 -- the first token, as f sees it
-abbrev pub first_by : {X : Type 0} → (List ℕ → Option X) → List (List ℕ) → Read X
+abbrev pub first_by : {X : Type 0} → (List ℕ → Option X) → List (List ℕ) → Front X
 first_by f [] = None
 first_by f (t ∷ ts) = option_map (λ x. (x, ts)) (f t)
 
-abbrev pub small_at : List (List ℕ) → Read ℕ
+abbrev pub small_at : List (List ℕ) → Front ℕ
 small_at ts = first_by small_of ts
 
-abbrev pub name_at : List (List ℕ) → Read Name
+abbrev pub name_at : List (List ℕ) → Front Name
 name_at ts = first_by name_of ts
 
 abbrev pub is_open : List ℕ → Bool
@@ -87,18 +87,18 @@ abbrev pub closing : List (List ℕ) → Option (List (List ℕ))
 closing [] = None
 closing (t ∷ ts) = if bytes_eq t (codes ")") then Some ts else None
 
-abbrev pub closed : Tree → List (List ℕ) → Read Tree
+abbrev pub closed : Tree → List (List ℕ) → Front Tree
 closed e ts = closing ts >>= λ us. Some (e, us)
 
 -- the two numbers of a slice
-unfoldable pub slice_at : List (List ℕ) → Read Op
+unfoldable pub slice_at : List (List ℕ) → Front Op
 slice_at ts = do
   hi ← small_at ts
   lo ← small_at hi.1
   Some (Slice hi.0 lo.0, lo.1)
 
 -- an operator with one number
-unfoldable pub counted_at : (ℕ → Op) → List (List ℕ) → Read Op
+unfoldable pub counted_at : (ℕ → Op) → List (List ℕ) → Front Op
 counted_at f ts = do
   n ← small_at ts
   Some (f n.0, n.1)
@@ -119,7 +119,7 @@ plain_of t =
     else None)))))))))
 
 -- an operator, with its numbers
-unfoldable pub operator_at : List (List ℕ) → Read Op
+unfoldable pub operator_at : List (List ℕ) → Front Op
 operator_at [] = None
 operator_at (t ∷ ts) =
     if bytes_eq t (codes "slice") then slice_at ts
@@ -130,18 +130,18 @@ operator_at (t ∷ ts) =
 
 -- ---- operands, each of which is read by part, and the closing parenthesis
 
-unfoldable pub one_at : (List (List ℕ) → Read Tree) → Op → List (List ℕ) → Read Tree
+unfoldable pub one_at : (List (List ℕ) → Front Tree) → Op → List (List ℕ) → Front Tree
 one_at part op ts = do
   a ← part ts
   closed (apply1 op a.0) a.1
 
-unfoldable pub two_at : (List (List ℕ) → Read Tree) → Op → List (List ℕ) → Read Tree
+unfoldable pub two_at : (List (List ℕ) → Front Tree) → Op → List (List ℕ) → Front Tree
 two_at part op ts = do
   a ← part ts
   b ← part a.1
   closed (apply2 op a.0 b.0) b.1
 
-unfoldable pub three_at : (List (List ℕ) → Read Tree) → Op → List (List ℕ) → Read Tree
+unfoldable pub three_at : (List (List ℕ) → Front Tree) → Op → List (List ℕ) → Front Tree
 three_at part op ts = do
   a ← part ts
   b ← part a.1
@@ -149,7 +149,7 @@ three_at part op ts = do
   closed (apply3 op a.0 b.0 c.0) c.1
 
 -- as many operands as the operator takes
-unfoldable pub operands_at : (List (List ℕ) → Read Tree) → Op → List (List ℕ) → Read Tree
+unfoldable pub operands_at : (List (List ℕ) → Front Tree) → Op → List (List ℕ) → Front Tree
 operands_at part op ts =
     if arity_of op == 1 then one_at part op ts
     else (if arity_of op == 2 then two_at part op ts
@@ -157,18 +157,18 @@ operands_at part op ts =
     else None))
 
 -- what stands after an opening parenthesis
-unfoldable pub applied_at : (List (List ℕ) → Read Tree) → List (List ℕ) → Read Tree
+unfoldable pub applied_at : (List (List ℕ) → Front Tree) → List (List ℕ) → Front Tree
 applied_at part ts = do
   op ← operator_at ts
   operands_at part op.0 op.1
 
 -- ---- expressions
 
-unfoldable pub level : Names → (List (List ℕ) → Read Tree) → List (List ℕ) → Read Tree
+unfoldable pub level : Positions → (List (List ℕ) → Front Tree) → List (List ℕ) → Front Tree
 level s part [] = None
 level s part (t ∷ ts) = if is_open t then applied_at part ts else first_by (atom_of s) (t ∷ ts)
 
 -- an expression of names in scope, with at most so many operators on one way from its root
-unfoldable pub expr_at : Names → ℕ → List (List ℕ) → Read Tree
+unfoldable pub expr_at : Positions → ℕ → List (List ℕ) → Front Tree
 expr_at s zero = first_by (atom_of s)
 expr_at s (suc depth) = level s (expr_at s depth)

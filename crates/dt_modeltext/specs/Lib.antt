@@ -1,8 +1,11 @@
+pub mod Fault
 pub mod Expr
 pub mod Depth
 pub mod Spelling
+pub mod Act
 pub mod Line
-pub mod Reading
-pub mod Places
-pub mod Code
-pub mod Printed
+pub mod Entry
+pub mod Draft
+pub mod Read
+pub mod Laws
+pub mod Print

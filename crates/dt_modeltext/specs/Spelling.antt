@@ -3,11 +3,11 @@ use Rattle.std.specs.Prelude.{◌≡◌, ℕ, ◌≤◌, false, List, [], ◌∷
 use Rattle.dt_bits.specs.declared.op.Op.{Op}
 use Rattle.dt_bits.specs.declared.op.Op.TheVariants.{Not, And, Or, Xor, Add, Sub, Slice, Concat, SignExt, Shl, Shr, Eq, Ltu, Ite, Const}
 use Rattle.dt_bits.specs.Ops.{arity_of}
-use Rattle.dt_model.specs.Data.{Tree, value, reg, input, var, apply1, apply2, apply3}
+use Rattle.dt_model.specs.ModelData.{Tree, value, reg, input, var, apply1, apply2, apply3}
 use Rattle.dt_model.specs.Widths.{depth}
 use Rattle.dt_model.specs.Limits.{most_depth}
 use Rattle.dt_modeltext.specs.Depth.{is_too_deep}
-use Rattle.dt_modeltext.specs.Expr.{Names, small_of, atom_of, expr_at}
+use Rattle.dt_modeltext.specs.Expr.{Positions, small_of, atom_of, expr_at}
 
 -- a word and one number
 abbrev pub SpellsCounted : List ℕ → ℕ → List (List ℕ) → Type 0
@@ -32,11 +32,11 @@ SpellsOperator Ite ts = ts ≡ codes "ite" ∷ []
 SpellsOperator (Const bv) ts = ⊥
 
 -- one token, a name or a constant
-abbrev pub SpellsAtom : Names → Tree → List (List ℕ) → Type 0
+abbrev pub SpellsAtom : Positions → Tree → List (List ℕ) → Type 0
 SpellsAtom s e ts = (t : List ℕ) × (atom_of s t ≡ Some e) × (ts ≡ t ∷ [])
 
 -- an expression of names in scope: one token, or an operator and as many operands as it takes in parentheses
-unfoldable pub Spells : Names → Tree → List (List ℕ) → Type 0
+unfoldable pub Spells : Positions → Tree → List (List ℕ) → Type 0
 Spells s (value w n) ts = SpellsAtom s (value w n) ts
 Spells s (reg i) ts = SpellsAtom s (reg i) ts
 Spells s (input i) ts = SpellsAtom s (input i) ts
@@ -47,12 +47,12 @@ Spells s (apply3 op a b c) ts = (os us vs ws : List (List ℕ)) × (arity_of op 
 
 -- what is read at the front of some tokens is spelled there
 abbrev pub ReadsOnlySpelled : Type 0
-ReadsOnlySpelled = (s : Names) (most : ℕ) (ts rest : List (List ℕ)) (e : Tree) → expr_at s most ts ≡ Some (e, rest) → (front : List (List ℕ)) × (ts ≡ front ++ rest) × Spells s e front
+ReadsOnlySpelled = (s : Positions) (most : ℕ) (ts rest : List (List ℕ)) (e : Tree) → expr_at s most ts ≡ Some (e, rest) → (front : List (List ℕ)) × (ts ≡ front ++ rest) × Spells s e front
 
 -- what is spelled and not too deep is read, whatever follows
 abbrev pub ReadsAllSpelled : Type 0
-ReadsAllSpelled = (s : Names) (most : ℕ) (ts rest : List (List ℕ)) (e : Tree) → Spells s e ts → depth e ≤ most → expr_at s most (ts ++ rest) ≡ Some (e, rest)
+ReadsAllSpelled = (s : Positions) (most : ℕ) (ts rest : List (List ℕ)) (e : Tree) → Spells s e ts → depth e ≤ most → expr_at s most (ts ++ rest) ≡ Some (e, rest)
 
 -- an expression that is spelled in a line which isn't too deep isn't deeper than a model's may be
 abbrev pub IsShallowSpelled : Type 0
-IsShallowSpelled = (s : Names) (e : Tree) (before ts after : List (List ℕ)) → Spells s e ts → is_too_deep (before ++ (ts ++ after)) ≡ false → depth e ≤ most_depth
+IsShallowSpelled = (s : Positions) (e : Tree) (before ts after : List (List ℕ)) → Spells s e ts → is_too_deep (before ++ (ts ++ after)) ≡ false → depth e ≤ most_depth

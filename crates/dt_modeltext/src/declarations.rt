@@ -1,21 +1,18 @@
-use crate::places::note;
-use dt_lex::Name;
-use dt_model::Named;
-use indexmap::IndexMap;
+use dt_model::{NameTable, Named};
 use std::alloc::{AllocError, Global};
 
-/// Registers, inputs or variables in their order, the lines that declare them, and the first
-/// position of each name.
+/// Registers, inputs or variables in their order, the lines that declare them, and where their
+/// names stand.
 #[derive(Drop)]
 pub struct Declarations {
     pub items: Vec<Named>,
     pub lines: Vec<u32>,
-    pub places: IndexMap<Name, u32>,
+    pub table: NameTable,
 }
 
 impl Declarations {
     ghost use Rattle.std.specs.Prelude.{◌≡◌, ◌++◌, ◌∷◌, [], ◌<◌, ◌^◌, OnOk, vec_len};
-    ghost use Rattle.dt_modeltext.specs.Code.{IsIndexed};
+    ghost use Rattle.dt_modeltext.specs.Draft.{IsIndexed};
 
     pub fn new(alloc: Global) -> Declarations
         ensures items { result.items.items ≡ [] }
@@ -25,7 +22,7 @@ impl Declarations {
         Declarations {
             items: Vec::new(alloc),
             lines: Vec::new(alloc),
-            places: IndexMap::new(alloc),
+            table: NameTable::new(alloc),
         }
     }
 
@@ -39,7 +36,7 @@ impl Declarations {
         let at = self.items.len() as u32;
         self.items.push(named)?;
         self.lines.push(line)?;
-        note(&mut self.places, named.name, at)
+        self.table.add(named.name, at)
     }
 
     /// The declarations, and their lines.

@@ -1,17 +1,17 @@
 use crate::declarations::Declarations;
-use crate::entry::Entry;
-use crate::known::Known;
-use crate::lines::Lines;
+use crate::line::{Line, SECTIONS};
+use crate::origins::Origins;
+use crate::symbols::Symbols;
 use dt_bits::Seq;
-use dt_lex::Name;
-use dt_model::{Expr, Model, Node};
-use indexmap::IndexMap;
+use dt_lex::{Standing, may_follow};
+use dt_model::{Expr, Model, NameTable, Node};
 use std::alloc::{AllocError, Global};
 
-/// What the lines so far declare and where, and the rank of the last of them.
+/// What the lines so far declare and where, and the place of the text behind them: how many of its
+/// sections there are up to that of the last line.
 #[derive(Drop)]
 pub struct Draft {
-    pub place: u8,
+    pub place: usize,
     pub word: u32,
     pub address: u32,
     pub regs: Declarations,
@@ -26,15 +26,15 @@ pub struct Draft {
 }
 
 impl Draft {
-    ghost use Rattle.std.specs.Prelude.{◌≡◌, ◌+◌, ◌<◌, ◌^◌, List, [], OnOk};
-    ghost use Rattle.dt_lex.specs.declared.name.Name.{Name};
-    ghost use Rattle.dt_model.specs.Data.{data_of};
-    ghost use Rattle.dt_modeltext.specs.Reading.{declared, may_follow, names_in};
-    ghost use Rattle.dt_modeltext.specs.Places.{Finds};
-    ghost use Rattle.dt_modeltext.specs.Code.{known_names, written, origins_of, declared_by, with_line, IsDraft};
+    ghost use Rattle.std.specs.Prelude.{◌≡◌, ◌==◌, ◌+◌, [], length, OnOk};
+    ghost use Rattle.dt_model.specs.ModelData.{data_of};
+    ghost use Rattle.dt_model.specs.NameTable.{found_in};
+    ghost use Rattle.dt_lex.specs.Sections.{may_follow};
+    ghost use Rattle.dt_modeltext.specs.Entry.{sections, standing, declared, declared_positions};
+    ghost use Rattle.dt_modeltext.specs.Draft.{positions_of, line_data, origins_of, declared_by, with_line, IsIndexed, IsDraft};
 
     /// What no line declares.
-    #[tactic(auto, unfolding(crate::specs::Reading::declared))]
+    #[tactic(auto, unfolding(crate::specs::Entry::declared))]
     pub fn new(alloc: Global) -> Draft
         ensures value { declared_by result ≡ declared [] }
         ensures valid { IsDraft 1 result }
@@ -56,89 +56,76 @@ impl Draft {
     }
 
     /// What the next line may name, where `nodes` has the positions of all nodes.
-    pub fn known<'a>(&'a self, nodes: &'a IndexMap<Name, u32>) -> Known<'a>
-        ensures regs { result.regs.now ≡ self.now.regs.places }
-        ensures inputs { result.inputs.now ≡ self.now.inputs.places }
-        ensures vars { result.vars.now ≡ self.now.vars.places }
-        ensures nodes { result.nodes.now ≡ nodes.now }
+    #[tactic(auto, using(crate::proofs::SymbolTables::tables_of_draft))]
+    pub fn symbols<'a>(&'a self, nodes: &'a NameTable) -> Symbols<'a>
+        requires regs { IsIndexed self.now.regs }
+        requires inputs { IsIndexed self.now.inputs }
+        requires vars { IsIndexed self.now.vars }
+        ensures { positions_of result
+            ≡ declared_positions (found_in nodes.now) (declared_by self.now).model }
     {
-        Known {
-            regs: &self.regs.places,
-            inputs: &self.inputs.places,
-            vars: &self.vars.places,
+        Symbols {
+            regs: &self.regs.table,
+            inputs: &self.inputs.table,
+            vars: &self.vars.table,
             nodes,
         }
     }
 
-    /// Whether a line of this rank may stand after those that were drafted.
-    pub fn may_follow(&self, rank: u8) -> bool
-        ensures { result ≡ may_follow self.now.place rank }
+    /// Whether this line may stand behind those of the draft.
+    pub fn allows(&self, line: &Line) -> bool
+        ensures { result ≡ may_follow sections self.now.place (standing (line_data line.now)) }
     {
-        if self.place < 3 {
-            rank == self.place + 1
-        } else {
-            self.place < 10 && 4 <= rank && self.place <= rank
-        }
+        may_follow(&SECTIONS, self.place, Standing::In(line.section()))
     }
 
-    /// Adds the line of this number.
+    /// Whether the lines have come to an end.
+    pub fn is_ended(&self) -> bool
+        ensures { result ≡ (self.now.place == length sections) }
+    {
+        self.place == SECTIONS.len()
+    }
+
+    /// Adds the line of this number. After an error nothing is said of the draft.
     #[tactic(auto, using(std::proofs::lemmas::List::map_push))]
-    pub fn add(&mut self, entry: Entry, number: u32) -> Result<(), AllocError>
+    pub fn add(&mut self, line: Line, number: u32) -> Result<(), AllocError>
         requires { IsDraft number self.old }
         ensures value { OnOk result (declared_by self.new
-            ≡ with_line (declared_by self.old) number (written entry)) }
+            ≡ with_line (declared_by self.old) number (line_data line)) }
         ensures valid { OnOk result (IsDraft (number + 1) self.new) }
     {
-        match entry {
-            Entry::Header => {
-                self.place = 1;
-            }
-            Entry::Word(bits) => {
+        self.place = line.section() + 1;
+        match line {
+            Line::Header | Line::End => {}
+            Line::Word(bits) => {
                 self.word = bits;
-                self.place = 2;
             }
-            Entry::Address(bits) => {
+            Line::Address(bits) => {
                 self.address = bits;
-                self.place = 3;
             }
-            Entry::Reg(named) => {
-                self.regs.add(named, number)?;
-                self.place = 4;
-            }
-            Entry::Input(named) => {
-                self.inputs.add(named, number)?;
-                self.place = 5;
-            }
-            Entry::Var(named) => {
-                self.vars.add(named, number)?;
-                self.place = 6;
-            }
-            Entry::ContextRule(expr) => {
+            Line::Reg(named) => self.regs.add(named, number)?,
+            Line::Input(named) => self.inputs.add(named, number)?,
+            Line::Var(named) => self.vars.add(named, number)?,
+            Line::ContextRule(expr) => {
                 self.legal_context.push(expr)?;
                 self.context_lines.push(number)?;
-                self.place = 7;
             }
-            Entry::AccessRule(expr) => {
+            Line::AccessRule(expr) => {
                 self.legal_access.push(expr)?;
                 self.access_lines.push(number)?;
-                self.place = 8;
             }
-            Entry::Node(node) => {
+            Line::Node(node) => {
                 self.nodes.push(node)?;
                 self.node_lines.push(number)?;
-                self.place = 9;
-            }
-            Entry::End => {
-                self.place = 10;
             }
         }
         Ok(())
     }
 
     /// The model that the lines declare, and where.
-    pub fn into_parts(self) -> (Model, Lines)
+    pub fn into_parts(self) -> (Model, Origins)
         ensures model { data_of result.0 ≡ (declared_by self).model }
-        ensures lines { origins_of result.1 ≡ (declared_by self).origins }
+        ensures origins { origins_of result.1 ≡ (declared_by self).origins }
     {
         let (regs, reg_lines) = self.regs.into_lists();
         let (inputs, input_lines) = self.inputs.into_lists();
@@ -153,7 +140,7 @@ impl Draft {
             legal_access: Seq::from_vec(self.legal_access),
             nodes: Seq::from_vec(self.nodes),
         };
-        let lines = Lines {
+        let origins = Origins {
             regs: reg_lines,
             inputs: input_lines,
             vars: var_lines,
@@ -161,6 +148,6 @@ impl Draft {
             legal_access: self.access_lines,
             nodes: self.node_lines,
         };
-        (model, lines)
+        (model, origins)
     }
 }

@@ -3,60 +3,53 @@ ghost use Rattle.std.specs.Option.{option_to_list};
 ghost use Rattle.dt_lex.specs.declared.name.Name.{Name};
 ghost use Rattle.dt_lex.specs.Text.{lines_of, tokens_of};
 ghost use Rattle.dt_modeltext.specs.Line.{node_name, node_names};
-ghost use Rattle.dt_modeltext.specs.Places.{Finds};
+ghost use Rattle.dt_model.specs.NameTable.{Finds};
 
-use crate::places::note;
 use dt_lex::{Name, next_line, next_token};
-use indexmap::IndexMap;
+use dt_model::NameTable;
 use std::alloc::{AllocError, Global};
 
 /// The name of the node that a line gives.
 fn node_name(line: &[u8]) -> Option<Name>
     ensures { option_to_list result ≡ node_name (tokens_of line.now) }
 {
-    match next_token(line) {
-        None => None,
-        Some((word, rest)) => match next_token(rest) {
-            None => None,
-            Some((name, _)) => {
-                if word == b"node".as_slice() {
-                    Name::read(name)
-                } else {
-                    None
-                }
-            }
-        },
+    let (word, rest) = next_token(line)?;
+    let (name, _) = next_token(rest)?;
+    if word == b"node".as_slice() {
+        Name::read(name)
+    } else {
+        None
     }
 }
 
-/// Notes the name of the node that a line gives, behind `count` names, and says how many there are
+/// Adds the name of the node that a line gives, behind `count` names, and says how many there are
 /// now.
-fn note_node(places: &mut IndexMap<Name, u32>, count: u32, line: &[u8]) -> Result<u32, AllocError>
+fn add_node(table: &mut NameTable, count: u32, line: &[u8]) -> Result<u32, AllocError>
     requires { count < 2 ^ 32 - 1 }
     ensures count { IfOk result (λ n. n ≡ count + length (node_name (tokens_of line.now))) }
-    ensures places { IfOk result (λ n. (names : List Name) → Finds places.old names
-        → length names ≡ count → Finds places.new (names ++ node_name (tokens_of line.now))) }
+    ensures table { IfOk result (λ n. (names : List Name) → Finds table.old names
+        → length names ≡ count → Finds table.new (names ++ node_name (tokens_of line.now))) }
 {
     match node_name(line) {
         None => Ok(count),
         Some(name) => {
-            note(places, name, count)?;
+            table.add(name, count)?;
             Ok(count + 1)
         }
     }
 }
 
-/// The positions of all nodes of a text: of each name the first.
-pub fn node_places(alloc: Global, text: &[u8]) -> Result<IndexMap<Name, u32>, AllocError>
+/// Where all nodes of a text stand, by their names.
+pub fn node_table(alloc: Global, text: &[u8]) -> Result<NameTable, AllocError>
     requires { length text.now < 2 ^ 32 - 1 }
-    ensures { IfOk result (λ places. Finds places (node_names (lines_of text.now))) }
+    ensures { IfOk result (λ table. Finds table (node_names (lines_of text.now))) }
 {
-    let mut places = IndexMap::new(alloc);
+    let mut table = NameTable::new(alloc);
     let mut count = 0u32;
     let mut rest = text;
     while let Some((line, after)) = next_line(rest) {
-        count = note_node(&mut places, count, line)?;
+        count = add_node(&mut table, count, line)?;
         rest = after;
     }
-    Ok(places)
+    Ok(table)
 }

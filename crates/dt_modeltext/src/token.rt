@@ -2,13 +2,13 @@ ghost use Rattle.std.specs.Prelude.{◌≡◌, Some, None, not, position};
 ghost use Rattle.std.specs.List.{before_first, after_first};
 ghost use Rattle.std.specs.Option.{option_map};
 ghost use Rattle.dt_lex.specs.Text.{tokens_of};
-ghost use Rattle.dt_model.specs.Data.{tree_of};
+ghost use Rattle.dt_model.specs.ModelData.{tree_of};
 ghost use Rattle.dt_modeltext.specs.Expr.{small_of, decimal_of, is_colon, constant_of, named, atom_of, small_at, name_at, closing};
-ghost use Rattle.dt_modeltext.specs.Line.{target, variable};
-ghost use Rattle.dt_modeltext.specs.Code.{known_names};
+ghost use Rattle.dt_modeltext.specs.Act.{target, variable};
+ghost use Rattle.dt_modeltext.specs.Draft.{positions_of};
 
-use crate::known::Known;
-use crate::places::place_of;
+use crate::parser::Front;
+use crate::symbols::Symbols;
 use dt_lex::{Name, next_token, number};
 use dt_model::Expr;
 
@@ -19,10 +19,8 @@ const UNKNOWN: u32 = u32::MAX;
 fn small(token: &[u8]) -> Option<u32>
     ensures { result ≡ small_of token.now }
 {
-    match number(token) {
-        None => None,
-        Some(n) => { if n < 1 << 32 { Some(n as u32) } else { None } }
-    }
+    let n = number(token)?;
+    if n < 1 << 32 { Some(n as u32) } else { None }
 }
 
 #[tactic(auto, unfolding(crate::specs::Expr::decimal_of))]
@@ -42,7 +40,7 @@ fn colon(token: &[u8]) -> Option<usize>
 }
 
 /// What stands before the first colon, and after it.
-#[tactic(auto, using(crate::proofs::Positions::before_none, crate::proofs::Positions::after_none, crate::proofs::Positions::before_some, crate::proofs::Positions::after_some, crate::proofs::Positions::position_below, std::proofs::lemmas::List::take_rest))]
+#[tactic(auto, using(dt_lemmas::proofs::Positions::before_none, dt_lemmas::proofs::Positions::after_none, dt_lemmas::proofs::Positions::before_some, dt_lemmas::proofs::Positions::after_some, dt_lemmas::proofs::Positions::position_below, std::proofs::lemmas::List::take_rest))]
 fn at_colon(token: &[u8]) -> (&[u8], &[u8])
     ensures before { result.0.now ≡ before_first is_colon token.now }
     ensures after { result.1.now ≡ after_first is_colon token.now }
@@ -59,32 +57,28 @@ fn constant(token: &[u8]) -> Option<Expr>
     ensures { option_map tree_of result ≡ constant_of token.now }
 {
     let (before, after) = at_colon(token);
-    match decimal(before) {
-        None => None,
-        Some(width) => match number(after) {
-            None => None,
-            Some(bits) => Some(Expr::Value { width, bits }),
-        },
-    }
+    let width = decimal(before)?;
+    let bits = number(after)?;
+    Some(Expr::Value { width, bits })
 }
 
 /// The position of the first node of this name.
-#[tactic(auto, unfolding(crate::specs::Line::target))]
-pub fn target(known: &Known, name: &Name) -> u32
-    ensures { result ≡ target (known_names known.now) name.now }
+#[tactic(auto, unfolding(crate::specs::Act::target))]
+pub fn target(symbols: &Symbols, name: &Name) -> u32
+    ensures { result ≡ target (positions_of symbols.now) name.now }
 {
-    match place_of(known.nodes, name) {
+    match symbols.nodes.position(name) {
         None => UNKNOWN,
         Some(i) => i,
     }
 }
 
 /// The position of a variable.
-#[tactic(auto, unfolding(crate::specs::Line::variable))]
-pub fn variable(known: &Known, name: &Name) -> u32
-    ensures { result ≡ variable (known_names known.now) name.now }
+#[tactic(auto, unfolding(crate::specs::Act::variable))]
+pub fn variable(symbols: &Symbols, name: &Name) -> u32
+    ensures { result ≡ variable (positions_of symbols.now) name.now }
 {
-    match place_of(known.vars, name) {
+    match symbols.vars.position(name) {
         None => UNKNOWN,
         Some(i) => i,
     }
@@ -92,14 +86,14 @@ pub fn variable(known: &Known, name: &Name) -> u32
 
 /// What a name in an expression stands for.
 #[tactic(auto, unfolding(crate::specs::Expr::named))]
-fn named(known: &Known, name: &Name) -> Expr
-    ensures { tree_of result ≡ named (known_names known.now) name.now }
+fn named(symbols: &Symbols, name: &Name) -> Expr
+    ensures { tree_of result ≡ named (positions_of symbols.now) name.now }
 {
-    match place_of(known.regs, name) {
+    match symbols.regs.position(name) {
         Some(i) => Expr::Reg(i),
-        None => match place_of(known.inputs, name) {
+        None => match symbols.inputs.position(name) {
             Some(i) => Expr::Input(i),
-            None => match place_of(known.vars, name) {
+            None => match symbols.vars.position(name) {
                 Some(i) => Expr::Var(i),
                 None => Expr::Reg(UNKNOWN),
             },
@@ -109,53 +103,39 @@ fn named(known: &Known, name: &Name) -> Expr
 
 /// The name or the constant that a token spells.
 #[tactic(auto, unfolding(crate::specs::Expr::atom_of))]
-pub fn atom(known: &Known, token: &[u8]) -> Option<Expr>
-    ensures { option_map tree_of result ≡ atom_of (known_names known.now) token.now }
+pub fn atom(symbols: &Symbols, token: &[u8]) -> Option<Expr>
+    ensures { option_map tree_of result ≡ atom_of (positions_of symbols.now) token.now }
 {
     match Name::read(token) {
-        Some(name) => Some(named(known, &name)),
+        Some(name) => Some(named(symbols, &name)),
         None => constant(token),
     }
 }
 
 /// The number below 2^32 at the front, and what stands after it.
-pub fn small_at(tokens: &[u8]) -> Option<(u32, &[u8])>
+pub fn small_at(tokens: &[u8]) -> Front<u32>
     ensures { option_map (λ x. (x.0, tokens_of x.1.now)) result ≡ small_at (tokens_of tokens.now) }
 {
-    match next_token(tokens) {
-        None => None,
-        Some((token, rest)) => match small(token) {
-            None => None,
-            Some(n) => Some((n, rest)),
-        },
-    }
+    let (token, rest) = next_token(tokens)?;
+    Some((small(token)?, rest))
 }
 
 /// The name at the front, and what stands after it.
-pub fn name_at(tokens: &[u8]) -> Option<(Name, &[u8])>
+pub fn name_at(tokens: &[u8]) -> Front<Name>
     ensures { option_map (λ x. (x.0, tokens_of x.1.now)) result ≡ name_at (tokens_of tokens.now) }
 {
-    match next_token(tokens) {
-        None => None,
-        Some((token, rest)) => match Name::read(token) {
-            None => None,
-            Some(name) => Some((name, rest)),
-        },
-    }
+    let (token, rest) = next_token(tokens)?;
+    Some((Name::read(token)?, rest))
 }
 
 /// What stands after a closing parenthesis.
 pub fn after_close(tokens: &[u8]) -> Option<&[u8]>
     ensures { option_map (λ x. tokens_of x.now) result ≡ closing (tokens_of tokens.now) }
 {
-    match next_token(tokens) {
-        None => None,
-        Some((token, rest)) => {
-            if token == b")".as_slice() {
-                Some(rest)
-            } else {
-                None
-            }
-        }
+    let (token, rest) = next_token(tokens)?;
+    if token == b")".as_slice() {
+        Some(rest)
+    } else {
+        None
     }
 }

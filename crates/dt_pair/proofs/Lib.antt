@@ -1,4 +1,5 @@
 pub mod Places
 pub mod Words
 pub mod Normals
-pub mod Made
+pub mod Within
+pub mod Narrowed

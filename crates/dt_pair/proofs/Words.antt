@@ -5,12 +5,12 @@ use Rattle.std.specs.Int.Bits.{or_zero_r}
 use Rattle.std.proofs.lemmas.Bool.{false≢true}
 use Rattle.std.proofs.lemmas.Nat.{pow_pos, and_mask, or_shifted, or_block, mod_below}
 use Rattle.std.proofs.Math.Nat.{mod-eq_of_lt, pow-le-pow_right}
+use Rattle.dt_bits.proofs.BitLemmas.{upper_bits}
 use Rattle.dt_bits.specs.Bits.{bit}
 use Rattle.dt_known.specs.declared.Known.{Known}
 use Rattle.dt_known.specs.Known.{IsKnown}
 use Rattle.dt_pair.specs.Ends.{has_bits, candidate, least_from, greatest_from, IsLeastFound, IsGreatestFound}
 use Rattle.dt_pair.specs.Places.{IsLowestPlace}
-use Rattle.dt_pair.specs.Laws.Splits.{upper_bits}
 use Rattle.dt_pair.specs.Laws.Candidates.{candidate_form, candidate_fits}
 use Rattle.dt_pair.specs.Laws.Least.{least_is, lowest_is, same_least}
 use Rattle.dt_pair.specs.Laws.Greatest.{turned_words, greatest_turned, greatest_is}

@@ -35,6 +35,7 @@ pair_laws = record {
   forward_is = forward_is;
   backward_is = backward_is;
   width_is = λ a p. p.known.width;
+  mask_fits = λ a p. known_laws.mask_fits a.known p.known;
   held_fits = λ a x p h. known_laws.held_fits a.known x p.known (both_hold a x h).known;
   full_holds = λ w x h l. and_from _ _ (known_laws.full_holds w x h l) (range_laws.full_holds w x h l);
   one_holds = one_held;
@@ -63,7 +64,7 @@ pair_decides = record {
 }
 
 abbrev known_eq : Known → Known → Bool
-known_eq a b = eqb a.mask b.mask && (eqb a.value b.value && (eqb a.width.0 b.width.0 && beq a.empty b.empty))
+known_eq a b = eqb a.mask b.mask && (eqb a.value b.value && (beq a.empty b.empty && eqb a.width.0 b.width.0))
 
 abbrev range_eq : Range → Range → Bool
 range_eq a b = eqb a.lo b.lo && (eqb a.hi b.hi && eqb a.width.0 b.width.0)

@@ -82,8 +82,8 @@ abbrev pub HoldSame : Pair → Pair → Type 0
 HoldSame a b = (x : ℕ) → pair_holds a x ≡ pair_holds b x
 
 -- each Pair in normal form that holds the same numbers as a, of its width, is a
-abbrev pub IsTold : Pair → Type 0
-IsTold a = (b : Pair) → IsPair b → b.known.width ≡ a.known.width → HoldSame b a → b ≡ a
+abbrev pub IsCanonical : Pair → Type 0
+IsCanonical a = (b : Pair) → IsPair b → b.known.width ≡ a.known.width → HoldSame b a → b ≡ a
 
 -- ---- the calls that make one: part by part, and then normalised
 

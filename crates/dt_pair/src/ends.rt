@@ -8,6 +8,7 @@ use dt_bits::{bit_of, low_ones, ones};
 use dt_known::Known;
 
 /// The bits of `lo` above `place`, 1 there, and below it the known bits, with 0 where a bit isn't known.
+#[inline(always)]
 fn candidate(value: u128, lo: u128, place: u32) -> u128
     requires place { place < 128 }
     requires fits { candidate value lo place < 2 ^ 128 }
@@ -20,6 +21,7 @@ fn candidate(value: u128, lo: u128, place: u32) -> u128
 ///
 /// Below the highest bit at which `lo` and the known bits clash there is none. Where the known bit
 /// is 1 there, it is this one; else it is the lowest bit above that is 0 in `lo` and unknown.
+#[inline(always)]
 fn candidate_place(known: &Known, lo: u128) -> Option<u32>
     requires known { IsKnown known.now }
     requires lo { lo < 2 ^ known.now.width.0 }
@@ -40,6 +42,7 @@ fn candidate_place(known: &Known, lo: u128) -> Option<u32>
 }
 
 /// The least number of `lo` or more that has the known bits.
+#[inline(always)]
 pub fn least_from(known: &Known, lo: u128) -> Option<u128>
     requires known { IsKnown known.now }
     requires lo { lo < 2 ^ known.now.width.0 }
@@ -57,6 +60,7 @@ pub fn least_from(known: &Known, lo: u128) -> Option<u128>
 
 /// The greatest number of `hi` or less that has the known bits: the least one, where each number
 /// stands for the largest less it.
+#[inline(always)]
 pub fn greatest_from(known: &Known, hi: u128) -> Option<u128>
     requires known { IsKnown known.now }
     requires hi { hi < 2 ^ known.now.width.0 }

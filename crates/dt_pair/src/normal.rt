@@ -1,7 +1,9 @@
 //! The normal form of a Pair.
 ghost use Rattle.std.specs.Prelude.{◌≡◌, ℕ, ◌≤◌, ◌<◌, ◌^◌, ◌↔◌, Some, true, false};
+ghost use Rattle.dt_domain.specs.Domain.{IsNarrowed};
 ghost use Rattle.dt_known.specs.Known.{IsKnown};
-ghost use Rattle.dt_pair.specs.Pair.{AreEnds, AreParts, IsPair, IsTold, both_hold, pair_holds, no_pair, filled, least_of, normal};
+ghost use Rattle.dt_pair.specs.Ops.{pair_ops};
+ghost use Rattle.dt_pair.specs.Pair.{AreEnds, AreParts, IsPair, IsCanonical, both_hold, pair_holds, no_pair, filled, least_of, normal};
 
 use crate::Pair;
 use crate::ends::{greatest_from, least_from};
@@ -11,6 +13,7 @@ use dt_known::Known;
 use dt_range::Range;
 
 /// The Pair that holds nothing: both parts are empty.
+#[inline(always)]
 fn nothing(width: Width) -> Pair
     ensures { result ≡ no_pair width }
 {
@@ -31,6 +34,7 @@ fn nothing(width: Width) -> Pair
 
 /// The Pair of which these are the least and the greatest number: it also knows the bits above the
 /// highest in which they differ.
+#[inline(always)]
 fn filled(known: &Known, lo: u128, hi: u128) -> Pair
     requires known { IsKnown known.now }
     requires order { lo ≤ hi }
@@ -42,10 +46,10 @@ fn filled(known: &Known, lo: u128, hi: u128) -> Pair
         hi,
         width: known.width,
     };
-    let told = range.known_mask();
+    let shared = range.known_mask();
     let known = Known {
-        mask: known.mask | told,
-        value: known.value | lo & told,
+        mask: known.mask | shared,
+        value: known.value | lo & shared,
         width: known.width,
         empty: false,
     };
@@ -53,6 +57,7 @@ fn filled(known: &Known, lo: u128, hi: u128) -> Pair
 }
 
 /// The Pair of these parts, of which `lo` is the least number that has the known bits.
+#[inline(always)]
 fn up_from(known: &Known, range: &Range, lo: u128) -> Pair
     requires parts { AreParts known.now range.now }
     requires full { known.now.empty ≡ false }
@@ -67,6 +72,7 @@ fn up_from(known: &Known, range: &Range, lo: u128) -> Pair
 }
 
 /// The normal form of these parts.
+#[inline(always)]
 fn normalised(known: &Known, range: &Range) -> Pair
     requires { AreParts known.now range.now }
     ensures { result ≡ normal known.now range.now }
@@ -89,6 +95,7 @@ impl Pair {
     ///
     /// The parts have one width. The numbers that are held stay; where there are none, both parts
     /// are empty. It works on whole machine words, with no loop.
+    #[inline(always)]
     pub fn normal(known: &Known, range: &Range) -> Pair
         requires { AreParts known.now range.now }
         ensures is { result ≡ normal known.now range.now }
@@ -98,8 +105,22 @@ impl Pair {
         ensures empty { (result.known.empty ≡ true)
             ↔ ((x : ℕ) → both_hold known.now range.now x ≡ false) }
         ensures ends { result.known.empty ≡ false → AreEnds result }
-        ensures told { IsTold result }
+        ensures canonical { IsCanonical result }
     {
         normalised(known, range)
+    }
+    /// The meet with the numbers that both parts hold, or None, which says that this is the Pair
+    /// itself. The parts are compared as they are, so most calls normalise nothing.
+    #[inline(always)]
+    pub(crate) fn narrowed(&self, known: &Known, range: &Range) -> Option<Pair>
+        requires self_is { IsPair self.now }
+        requires parts { AreParts known.now range.now }
+        requires widths { self.now.known.width ≡ known.now.width }
+        ensures { IsNarrowed pair_ops self.now (normal known.now range.now) result }
+    {
+        if self.known.is_within(known) && self.range.is_within(range) {
+            return None;
+        }
+        Some(Pair::normal(&self.known.meet(known), &self.range.meet(range)))
     }
 }

@@ -1,29 +1,19 @@
 -- What the words of the bodies are: masks, halves and shifted ends.
-use Rattle.std.proofs.Common.{◌≡◌, ℕ, suc, ◌+◌, ◌-◌, ◌*◌, ◌/◌, ◌%◌, ◌^◌, ◌<◌, ◌≤◌, Bool, false, not, ◌&&◌, eqb, ltb, bit_xor, refl, sym, ap, ◌∙◌, subst, ⊎_elim, arith}
+use Rattle.std.proofs.Common.{◌≡◌, ℕ, suc, ◌+◌, ◌-◌, ◌/◌, ◌^◌, ◌<◌, ◌≤◌, false, not, ◌&&◌, eqb, ltb, bit_xor, refl, sym, ap, ◌∙◌, subst, ⊎_elim, arith}
 use Rattle.std.specs.Int.{w128, leading_zeros}
 use Rattle.std.specs.Int.Bits.{xor_self}
-use Rattle.std.proofs.lemmas.Bool.{cases_lt, cases_eq, and_right, eq-eqb, ne_eqb, eqb-false, lt-ltb, le-ltb}
-use Rattle.std.proofs.lemmas.Nat.{pow_pos, xor_lt, xor_shr, le-div, leading_top, shl_whole, shr_le, pow-add}
+use Rattle.std.proofs.lemmas.Bool.{cases_lt, cases_eq, and_right, eq-eqb, ne_eqb, lt-ltb, le-ltb}
+use Rattle.std.proofs.lemmas.Nat.{pow_pos, xor_lt, xor_shr, le-div, leading_top}
 use Rattle.std.proofs.lemmas.Nat.Bits.{ones_shr}
-use Rattle.std.proofs.Math.Nat.{div-mul-le_self, div-eq_of_lt, mod-eq_of_lt, mul-le-mul_right, pow-le-pow_right}
-use Rattle.dt_bits.specs.Bits.{bit, differs, number_of}
-use Rattle.dt_bits.proofs.BitLemmas.{same_bits, bit_of_xor, bit_of_zero, bit_of_complement, bit_of_ones, bit_of_ones_at, bit_of_number, number_of_below}
+use Rattle.std.proofs.Math.Nat.{div-eq_of_lt, pow-le-pow_right}
+use Rattle.dt_lemmas.proofs.Powers.{halved, quotient_fits}
+use Rattle.dt_bits.specs.Bits.{number_of}
+use Rattle.dt_bits.proofs.BitLemmas.{same_bits, bit_of_complement, bit_of_ones, bit_of_ones_at, bit_of_number, number_of_below, equal_from_xor}
 use Rattle.dt_range.specs.declared.Range.{Range}
 use Rattle.dt_range.specs.Range.{IsRange, range_is_empty, shares_from, range_mask}
-use Rattle.dt_range.specs.Laws.Numbers.{div_le, halved}
 use Rattle.dt_range.specs.Laws.KnownBits.{mask_full}
 
 -- ---- two numbers from a bit up
-
-same_from_xor : (p q : Bool) → differs p q ≡ false → p ≡ q
-same_from_xor p q e = grind arith
-
--- numbers that differ in no bit are equal
-pub equal_from_xor : (w x y : ℕ) → x < 2 ^ w → y < 2 ^ w → bit_xor x y ≡ 0 → x ≡ y
-equal_from_xor w x y h k e = same_bits w x y h k (λ i l. same_from_xor (bit x i) (bit y i) (sym (bit_of_xor x y i) ∙ ap (λ n. bit n i) e ∙ bit_of_zero i))
-
-quotient_fits : (w x i : ℕ) → x < 2 ^ w → x / 2 ^ i < 2 ^ w
-quotient_fits w x i h = omega (arith, shr_le x i)
 
 -- j is the highest bit in which x and y differ: they share the bits from i up exactly where i is above it
 shared_above : (w x y j i : ℕ) → x < 2 ^ w → y < 2 ^ w → 2 ^ j ≤ bit_xor x y → bit_xor x y < 2 ^ suc j → eqb (x / 2 ^ i) (y / 2 ^ i) ≡ not (ltb i (suc j))
@@ -135,27 +125,4 @@ mask_of_differing a p e h =
 
 -- ---- halves
 
--- the half above begins above 0
-pub middle_positive : (x y i : ℕ) → x ≤ y → y < 2 ^ 128 → eqb (x / 2 ^ i) (y / 2 ^ i) ≡ false → 1 ≤ y / 2 ^ i * 2 ^ i % 2 ^ 128
-middle_positive x y i l h e =
-    let s = eqb-false _ _ e in
-    let p = div_le x y i l in
-    let q : 1 ≤ y / 2 ^ i = some_quotient (x / 2 ^ i) (y / 2 ^ i) p s in
-    let r : 1 * 2 ^ i ≤ y / 2 ^ i * 2 ^ i = mul-le-mul_right (2 ^ i) q in
-    let t : y / 2 ^ i * 2 ^ i % 2 ^ 128 ≡ y / 2 ^ i * 2 ^ i = mod-eq_of_lt (let u : y / 2 ^ i * 2 ^ i < 2 ^ 128 = omega (arith, div-mul-le_self y (2 ^ i)) in u) in
-    omega (arith, pow_pos i)
-  where
-    some_quotient : (m n : ℕ) → m ≤ n → (m ≡ n → ⊥) → 1 ≤ n
-    some_quotient m n l s = grind arith
-
 -- ---- shifted ends
-
--- a number of n bits, moved up by k within 128 bits
-pub moved_up : (x n k : ℕ) → x < 2 ^ (n - k) → k < n → n ≤ 128 → x * 2 ^ k % 2 ^ 128 ≡ x * 2 ^ k
-moved_up x n k h l s = shl_whole x (n - k) k 128 h (omega arith)
-
-pub moved_fits : (x n k : ℕ) → x < 2 ^ (n - k) → k < n → x * 2 ^ k + 2 ^ k ≤ 2 ^ n
-moved_fits x n k h l =
-    let e : n - k + k ≡ n = omega arith in
-    let p : (x + 1) * 2 ^ k ≤ 2 ^ (n - k) * 2 ^ k = mul-le-mul_right (2 ^ k) (let u : x + 1 ≤ 2 ^ (n - k) = omega arith in u) in
-    omega (arith, sym (pow-add 2 (n - k) k) ∙ ap (λ m. 2 ^ m) e)

@@ -1,7 +1,7 @@
 -- The range of an operator's result, from the ranges of the operands.
 use Rattle.std.specs.Prelude.{ℕ, ◌+◌, ◌-◌, ◌*◌, ◌/◌, ◌^◌, Bool, true, false, not, ◌&&◌, ◌||◌, ◌==◌, nat_lt, nat_le, if◌then◌else◌, min, max}
 use Rattle.dt_bits.specs.Bits.{width}
-use Rattle.dt_bits.specs.Ops.{arity_of, width_of, value_of, applied}
+use Rattle.dt_bits.specs.Ops.{arity_of, width_of, value_of, applied, some_used}
 use Rattle.dt_bits.specs.declared.op.Op.{Op}
 use Rattle.dt_bits.specs.declared.op.Op.TheVariants.{Not, And, Or, Add, Sub, Slice, Concat, SignExt, Shl, Shr, Eq, Ltu, Ite}
 use Rattle.dt_bits.specs.declared.value.Bv.{Bv}
@@ -88,8 +88,7 @@ abbrev pub is_used : Op → ℕ → Bool
 is_used op k = nat_lt k (arity_of op)
 
 abbrev pub some_used_empty : Op → Range → Range → Range → Bool
-some_used_empty op a b c =
-    is_used op 0 && range_is_empty a || (is_used op 1 && range_is_empty b || is_used op 2 && range_is_empty c)
+some_used_empty op a b c = some_used op (range_is_empty a) (range_is_empty b) (range_is_empty c)
 
 abbrev pub all_used_single : Op → Range → Range → Range → Bool
 all_used_single op a b c =

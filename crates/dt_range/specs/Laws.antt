@@ -1,7 +1,5 @@
 -- Range keeps the laws of a domain.
-pub mod Numbers
 pub mod Between
-pub mod Values
 pub mod KnownBits
 pub mod Meets
 pub mod ForwardHolds
@@ -10,11 +8,12 @@ pub mod Calls
 use Rattle.std.proofs.Common.{◌≡◌, ℕ, ◌-◌, ◌^◌, ◌<◌, ◌≤◌, Bool, true, false, ◌&&◌, cond, eqb, ltb, leb, Option, Some, None, refl, ap, ◌∙◌, arith}
 use Rattle.std.specs.Prelude.{MatchOption, ◌↔◌}
 use Rattle.std.proofs.lemmas.Bool.{and_parts, and_left, and_from, ltb-true, ltb-false, lt-leb, le-leb, eqb-true, eq-eqb, false_from_ne_true}
-use Rattle.dt_bits.specs.Bits.{IsValue}
+use Rattle.dt_bits.specs.Bits.{IsValue, number_of}
+use Rattle.dt_bits.proofs.BitLemmas.{number_of_below}
 use Rattle.dt_bits.specs.declared.value.Bv.{Bv}
 use Rattle.dt_domain.specs.Domain.{DomainLaws, IsExact, AreAlike}
 use Rattle.dt_range.specs.declared.Range.{Range}
-use Rattle.dt_range.specs.Range.{IsRange, range_holds, range_is_empty, range_full, range_one}
+use Rattle.dt_range.specs.Range.{IsRange, range_holds, range_is_empty, range_full, range_one, shares_from}
 use Rattle.dt_range.specs.Ops.{range_ops}
 use Rattle.dt_range.specs.Laws.Between.{held, held_is, held_below, full_is, one_is, full_holds, one_of_holds}
 use Rattle.dt_range.specs.Laws.KnownBits.{held_agrees, empty_known, one_all, known_one}
@@ -26,6 +25,10 @@ one_holds v x = (λ h. let k = held (range_one v) x h in omega (arith, k.above, 
 
 empty_holds : (a : Range) (x : ℕ) → range_is_empty a ≡ true → range_holds a x ≡ false
 empty_holds a x e = false_from_ne_true _ (λ h. let k = held a x h in let l = ltb-true _ _ e in omega (arith, k.above, k.below))
+
+mask_below : (a : Range) (e : Bool) → cond e 0 (number_of a.width.0 (shares_from a)) < 2 ^ a.width.0
+mask_below a true = let h = number_of_below a.width.0 (shares_from a) in omega (arith, h)
+mask_below a false = number_of_below a.width.0 (shares_from a)
 
 low_held : (a : Range) → range_is_empty a ≡ false → range_holds a a.lo ≡ true
 low_held a e = held_is a a.lo (omega arith) (ltb-false _ _ e)
@@ -43,6 +46,7 @@ range_laws = record {
   forward_is = forward_is;
   backward_is = backward_is;
   width_is = λ a p. p.width;
+  mask_fits = λ a p. mask_below a (range_is_empty a);
   held_fits = λ a x p h. held_below a x p (held a x h);
   full_holds = λ w x h l. full_holds w x l;
   one_holds = λ v x h. one_holds v x;

@@ -13,6 +13,7 @@ use crate::undo_tests::{chosen_of, eq_back_of, ltu_first_of, ltu_second_of, test
 use dt_bits::{Op, ones};
 
 /// The first operand, where nothing used is empty.
+#[inline(always)]
 pub fn first_of(op: Op, outcome: &Range, a: &Range, b: &Range, c: &Range) -> Range
     requires fitting { FittingAt range_ops op 0 outcome.now a.now b.now c.now }
     requires outcome { range_is_empty outcome.now ≡ false }
@@ -36,6 +37,7 @@ pub fn first_of(op: Op, outcome: &Range, a: &Range, b: &Range, c: &Range) -> Ran
 }
 
 /// The second operand, where nothing used is empty.
+#[inline(always)]
 pub fn second_of(op: Op, outcome: &Range, a: &Range, b: &Range, c: &Range) -> Range
     requires fitting { FittingAt range_ops op 1 outcome.now a.now b.now c.now }
     requires outcome { range_is_empty outcome.now ≡ false }
@@ -56,6 +58,7 @@ pub fn second_of(op: Op, outcome: &Range, a: &Range, b: &Range, c: &Range) -> Ra
 }
 
 /// The third operand, where nothing used is empty. Only Ite has one.
+#[inline(always)]
 pub fn third_of(op: Op, outcome: &Range, a: &Range, b: &Range, c: &Range) -> Range
     requires fitting { FittingAt range_ops op 2 outcome.now a.now b.now c.now }
     requires outcome { range_is_empty outcome.now ≡ false }

@@ -7,6 +7,7 @@ ghost use Rattle.dt_range.specs.Forward.{flag, are_disjoint, range_hull};
 use crate::Range;
 use dt_bits::Width;
 
+#[inline(always)]
 pub fn eq_of(a: &Range, b: &Range) -> Range
     ensures { result ≡ (if are_disjoint a.now b.now then flag false else range_full (width 1)) }
 {
@@ -17,6 +18,7 @@ pub fn eq_of(a: &Range, b: &Range) -> Range
     }
 }
 
+#[inline(always)]
 pub fn ltu_of(a: &Range, b: &Range) -> Range
     ensures { result ≡ (if nat_lt a.now.hi b.now.lo then flag true
         else (if nat_le b.now.hi a.now.lo then flag false else range_full (width 1))) }
@@ -31,12 +33,14 @@ pub fn ltu_of(a: &Range, b: &Range) -> Range
 }
 
 /// The least range that has both.
+#[inline(always)]
 fn hull_of(a: &Range, b: &Range) -> Range
     ensures { result ≡ range_hull a.now b.now }
 {
     Range::between(a.width, a.lo.min(b.lo), a.hi.max(b.hi))
 }
 
+#[inline(always)]
 pub fn ite_of(a: &Range, b: &Range, c: &Range) -> Range
     ensures { result ≡ (if is_single a.now then (if a.now.lo == 1 then b.now else c.now)
         else range_hull b.now c.now) }

@@ -1,10 +1,8 @@
 //! Range as a domain.
 use crate::Range;
 use crate::backward::{first_of, second_of, third_of};
-use crate::forward::{
-    is_all_used_single, is_some_used_empty, result_width, table_of, value_of_ends,
-};
-use dt_bits::{Bv, Op, Width, bit_of};
+use crate::forward::{is_all_used_single, table_of, value_of_ends};
+use dt_bits::{Bv, Op, Width, bit_of, is_some_used, result_width};
 use dt_domain::Domain;
 
 impl Domain for Range {
@@ -17,10 +15,12 @@ impl Domain for Range {
 
     ghost exact = { range_exact };
 
+    #[inline(always)]
     fn full(width: Width) -> Range {
         Range::all(width)
     }
 
+    #[inline(always)]
     fn one(value: Bv) -> Range {
         Range {
             lo: value.bits,
@@ -29,26 +29,32 @@ impl Domain for Range {
         }
     }
 
+    #[inline(always)]
     fn width(&self) -> Width {
         self.width
     }
 
+    #[inline(always)]
     fn holds(&self, value: u128) -> bool {
         self.lo <= value && value <= self.hi
     }
 
+    #[inline(always)]
     fn is_empty(&self) -> bool {
         self.holds_none()
     }
 
+    #[inline(always)]
     fn known_mask(&self) -> u128 {
         self.mask()
     }
 
+    #[inline(always)]
     fn known_value(&self) -> u128 {
         self.lo & self.mask()
     }
 
+    #[inline(always)]
     fn pick(&self) -> Option<u128> {
         if self.holds_none() {
             None
@@ -57,10 +63,17 @@ impl Domain for Range {
         }
     }
 
+    #[inline(always)]
     fn meet(&self, other: &Range) -> Range {
         self.common(other)
     }
 
+    #[inline(always)]
+    fn is_within(&self, other: &Range) -> bool {
+        other.covers(self) || self.holds_none()
+    }
+
+    #[inline(always)]
     fn with_bit(&self, bit: u32, value: bool) -> Range {
         if self.holds_none() {
             return Range::nothing(self.width);
@@ -79,9 +92,10 @@ impl Domain for Range {
         }
     }
 
+    #[inline(always)]
     fn forward(op: Op, a: &Range, b: &Range, c: &Range) -> Range {
-        if is_some_used_empty(op, a, b, c) {
-            return Range::nothing(result_width(op, a, b, c));
+        if is_some_used(op, a.holds_none(), b.holds_none(), c.holds_none()) {
+            return Range::nothing(result_width(op, a.width, b.width, c.width));
         }
         if is_all_used_single(op, a, b, c) {
             return value_of_ends(op, a, b, c);
@@ -89,8 +103,10 @@ impl Domain for Range {
         table_of(op, a, b, c)
     }
 
+    #[inline(always)]
     fn backward(op: Op, place: u32, outcome: &Range, a: &Range, b: &Range, c: &Range) -> Range {
-        let none = outcome.holds_none() || is_some_used_empty(op, a, b, c);
+        let used = is_some_used(op, a.holds_none(), b.holds_none(), c.holds_none());
+        let none = outcome.holds_none() || used;
         match place {
             0 => if none {
                 Range::nothing(a.width)

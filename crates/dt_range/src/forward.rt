@@ -3,24 +3,17 @@ ghost use Rattle.std.specs.Prelude.{◌≡◌, false};
 ghost use Rattle.dt_bits.specs.Ops.{applied};
 ghost use Rattle.dt_domain.specs.Domain.{Fitting};
 ghost use Rattle.dt_range.specs.Range.{range_one};
-ghost use Rattle.dt_range.specs.Forward.{low_end, forward_table, width_after, some_used_empty, all_used_single};
+ghost use Rattle.dt_range.specs.Forward.{low_end, forward_table, some_used_empty, all_used_single};
 ghost use Rattle.dt_range.specs.Ops.{range_ops};
 
 use crate::Range;
 use crate::compare::{eq_of, ite_of, ltu_of};
 use crate::moved::{concat_of, shl_of, shr_of, sign_of, slice_of};
 use crate::sums::{difference_of, not_of, sum_of};
-use dt_bits::{Op, Width, apply, arity, ones};
-
-/// An operand that the operator uses is empty.
-pub fn is_some_used_empty(op: Op, a: &Range, b: &Range, c: &Range) -> bool
-    ensures { result ≡ some_used_empty op a.now b.now c.now }
-{
-    let count = arity(op);
-    0 < count && a.holds_none() || 1 < count && b.holds_none() || 2 < count && c.holds_none()
-}
+use dt_bits::{Op, apply, arity, ones, result_width};
 
 /// Each operand that the operator uses holds one number.
+#[inline(always)]
 pub fn is_all_used_single(op: Op, a: &Range, b: &Range, c: &Range) -> bool
     ensures { result ≡ all_used_single op a.now b.now c.now }
 {
@@ -28,24 +21,8 @@ pub fn is_all_used_single(op: Op, a: &Range, b: &Range, c: &Range) -> bool
     (count <= 0 || a.is_single()) && (count <= 1 || b.is_single()) && (count <= 2 || c.is_single())
 }
 
-/// The width of the operator's result.
-pub fn result_width(op: Op, a: &Range, b: &Range, c: &Range) -> Width
-    requires { Fitting range_ops op a.now b.now c.now }
-    ensures { result ≡ width_after op a.now b.now c.now }
-{
-    match op {
-        Op::Const { value } => value.width,
-        Op::Not | Op::And | Op::Or | Op::Xor | Op::Add | Op::Sub => a.width,
-        Op::Shl { .. } | Op::Shr { .. } => a.width,
-        Op::Slice { hi, lo } => Width(hi - lo + 1),
-        Op::Concat => Width(a.width.0 + b.width.0),
-        Op::SignExt { to } => Width(to),
-        Op::Eq | Op::Ltu => Width(1),
-        Op::Ite => b.width,
-    }
-}
-
 /// The operator's value of the least numbers.
+#[inline(always)]
 pub fn value_of_ends(op: Op, a: &Range, b: &Range, c: &Range) -> Range
     requires { Fitting range_ops op a.now b.now c.now }
     ensures { result ≡ range_one (applied op (low_end a.now) (low_end b.now) (low_end c.now)) }
@@ -59,6 +36,7 @@ pub fn value_of_ends(op: Op, a: &Range, b: &Range, c: &Range) -> Range
 }
 
 /// The operator's table, where no used operand is empty.
+#[inline(always)]
 pub fn table_of(op: Op, a: &Range, b: &Range, c: &Range) -> Range
     requires fitting { Fitting range_ops op a.now b.now c.now }
     requires full { some_used_empty op a.now b.now c.now ≡ false }
@@ -78,6 +56,6 @@ pub fn table_of(op: Op, a: &Range, b: &Range, c: &Range) -> Range
         Op::Eq => eq_of(a, b),
         Op::Ltu => ltu_of(a, b),
         Op::Ite => ite_of(a, b, c),
-        Op::Const { .. } | Op::Xor => Range::all(result_width(op, a, b, c)),
+        Op::Const { .. } | Op::Xor => Range::all(result_width(op, a.width, b.width, c.width)),
     }
 }

@@ -1,12 +1,13 @@
 //! Forward of the operators that move bits: both ends moved, where their order stays.
 ghost use Rattle.std.specs.Prelude.{◌≡◌, ◌==◌, ◌+◌, ◌-◌, ◌*◌, ◌/◌, ◌%◌, ◌^◌, ◌<◌, ◌≤◌, nat_le, if◌then◌else◌};
-ghost use Rattle.dt_bits.specs.Bits.{IsWidth, width};
+ghost use Rattle.dt_bits.specs.Bits.{width};
 ghost use Rattle.dt_range.specs.Range.{IsRange, range_between, range_full, largest};
 
 use crate::Range;
-use dt_bits::{Width, ones};
+use dt_bits::{Width, extended, joined, ones};
 
 #[tactic(auto, using(std::proofs::lemmas::Nat::and_mask))]
+#[inline(always)]
 pub fn slice_of(a: &Range, hi: u32, lo: u32) -> Range
     requires lo { lo ≤ hi }
     requires hi { hi < 128 }
@@ -24,17 +25,7 @@ pub fn slice_of(a: &Range, hi: u32, lo: u32) -> Range
     }
 }
 
-/// The first number above the second.
-fn joined(high: u128, high_width: u32, low: u128, low_width: u32) -> u128
-    requires high { high < 2 ^ high_width }
-    requires low { low < 2 ^ low_width }
-    requires low_width { low_width < 128 }
-    requires whole { high_width + low_width ≤ 128 }
-    ensures { result ≡ high * 2 ^ low_width + low }
-{
-    (high << low_width) | low
-}
-
+#[inline(always)]
 pub fn concat_of(a: &Range, b: &Range) -> Range
     requires a { IsRange a.now }
     requires b { IsRange b.now }
@@ -42,28 +33,12 @@ pub fn concat_of(a: &Range, b: &Range) -> Range
     ensures { result ≡ range_between (width (a.now.width.0 + b.now.width.0))
         (a.now.lo * 2 ^ b.now.width.0 + b.now.lo) (a.now.hi * 2 ^ b.now.width.0 + b.now.hi) }
 {
-    let (high, low) = (a.width.0, b.width.0);
-    let least = joined(a.lo, high, b.lo, low);
-    let greatest = joined(a.hi, high, b.hi, low);
-    Range::between(Width(high + low), least, greatest)
+    let least = joined(a.low_end(), b.low_end());
+    let greatest = joined(a.high_end(), b.high_end());
+    Range::between(least.width, least.bits, greatest.bits)
 }
 
-/// The same number in two's complement, `to` bits wide.
-fn extended(number: u128, width: Width, to: Width) -> u128
-    requires width { IsWidth width.0 }
-    requires to { IsWidth to.0 }
-    requires order { width.0 ≤ to.0 }
-    requires number { number < 2 ^ width.0 }
-    ensures { result ≡ (if nat_le (2 ^ (width.0 - 1)) number
-        then number + (2 ^ to.0 - 2 ^ width.0) else number) }
-{
-    if number >= 1 << (width.0 - 1) {
-        number + (ones(to) - ones(width))
-    } else {
-        number
-    }
-}
-
+#[inline(always)]
 pub fn sign_of(a: &Range, to: u32) -> Range
     requires a { IsRange a.now }
     requires to { to ≤ 128 }
@@ -78,16 +53,15 @@ pub fn sign_of(a: &Range, to: u32) -> Range
 {
     let wide = Width(to);
     if a.shares_from(a.width.0 - 1) {
-        Range::between(
-            wide,
-            extended(a.lo, a.width, wide),
-            extended(a.hi, a.width, wide),
-        )
+        let least = extended(a.low_end(), wide);
+        let greatest = extended(a.high_end(), wide);
+        Range::between(wide, least.bits, greatest.bits)
     } else {
         Range::all(wide)
     }
 }
 
+#[inline(always)]
 pub fn shl_of(a: &Range, by: u32) -> Range
     requires a { IsRange a.now }
     requires by { by < a.now.width.0 }
@@ -104,6 +78,7 @@ pub fn shl_of(a: &Range, by: u32) -> Range
     }
 }
 
+#[inline(always)]
 pub fn shr_of(a: &Range, by: u32) -> Range
     requires { by < 128 }
     ensures { result ≡ range_between a.now.width (a.now.lo / 2 ^ by) (a.now.hi / 2 ^ by) }

@@ -1,5 +1,5 @@
 //! Ranges of given ends, and what is asked of one range.
-ghost use Rattle.std.specs.Prelude.{◌≡◌, ◌+◌, ◌≤◌, ◌<◌, ◌&&◌, not, false};
+ghost use Rattle.std.specs.Prelude.{◌≡◌, ◌+◌, ◌≤◌, ◌<◌, ◌↔◌, ◌&&◌, IsTrue, not, false};
 ghost use Rattle.dt_bits.specs.Bits.{IsWidth, IsValue};
 ghost use Rattle.dt_range.specs.Range.{IsRange, is_single, no_range, range_between, range_full, range_is_empty, range_mask, range_meet, shares_from, half};
 ghost use Rattle.dt_range.specs.Forward.{low_end, high_end, flag};
@@ -10,6 +10,7 @@ use dt_bits::{Bv, Width, ones};
 
 impl Range {
     /// The range that holds nothing.
+    #[inline(always)]
     pub(crate) fn nothing(width: Width) -> Range
         ensures { result ≡ no_range width }
     {
@@ -21,6 +22,7 @@ impl Range {
     }
 
     /// The numbers from `lo` to `hi`, of which there may be none.
+    #[inline(always)]
     pub(crate) fn between(width: Width, lo: u128, hi: u128) -> Range
         ensures { result ≡ range_between width lo hi }
     {
@@ -32,6 +34,7 @@ impl Range {
     }
 
     /// All numbers of the width.
+    #[inline(always)]
     pub(crate) fn all(width: Width) -> Range
         requires { IsWidth width.0 }
         ensures { result ≡ range_full width }
@@ -44,6 +47,7 @@ impl Range {
     }
 
     /// One bit that is known.
+    #[inline(always)]
     pub(crate) fn flag(value: bool) -> Range
         ensures { result ≡ flag value }
     {
@@ -56,6 +60,7 @@ impl Range {
     }
 
     /// The least number as a value.
+    #[inline(always)]
     pub(crate) fn low_end(&self) -> Bv
         ensures { result ≡ low_end self.now }
     {
@@ -66,6 +71,7 @@ impl Range {
     }
 
     /// The greatest number as a value.
+    #[inline(always)]
     pub(crate) fn high_end(&self) -> Bv
         ensures { result ≡ high_end self.now }
     {
@@ -76,6 +82,7 @@ impl Range {
     }
 
     /// No number is held.
+    #[inline(always)]
     pub(crate) fn holds_none(&self) -> bool
         ensures { result ≡ range_is_empty self.now }
     {
@@ -83,6 +90,7 @@ impl Range {
     }
 
     /// One number is held.
+    #[inline(always)]
     pub(crate) fn is_single(&self) -> bool
         ensures { result ≡ is_single self.now }
     {
@@ -90,6 +98,7 @@ impl Range {
     }
 
     /// This number is held, and no other.
+    #[inline(always)]
     pub(crate) fn is_value(&self, value: u128) -> bool
         ensures { result ≡ is_value self.now value }
     {
@@ -97,6 +106,7 @@ impl Range {
     }
 
     /// The numbers that both hold.
+    #[inline(always)]
     pub(crate) fn common(&self, other: &Range) -> Range
         ensures { result ≡ range_meet self.now other.now }
     {
@@ -104,13 +114,23 @@ impl Range {
     }
 
     /// No number is held by both.
+    #[inline(always)]
     pub(crate) fn is_apart(&self, other: &Range) -> bool
         ensures { result ≡ are_apart self.now other.now }
     {
         self.common(other).holds_none()
     }
 
+    /// The other's ends lie between this one's.
+    #[inline(always)]
+    pub(crate) fn covers(&self, other: &Range) -> bool
+        ensures { IsTrue result ↔ ((self.now.lo ≤ other.now.lo) × (other.now.hi ≤ self.now.hi)) }
+    {
+        self.lo <= other.lo && other.hi <= self.hi
+    }
+
     /// The ends have the same bits from this one up.
+    #[inline(always)]
     pub(crate) fn shares_from(&self, bit: u32) -> bool
         requires { bit < 128 }
         ensures { result ≡ shares_from self.now bit }
@@ -119,7 +139,8 @@ impl Range {
     }
 
     /// The ends have the same bits above this one.
-    #[tactic(auto, using(crate::specs::Laws::Numbers::halved))]
+    #[tactic(auto, using(dt_lemmas::proofs::Powers::halved))]
+    #[inline(always)]
     pub(crate) fn shares_above(&self, bit: u32) -> bool
         requires { bit < 128 }
         ensures { result ≡ shares_from self.now (bit + 1) }
@@ -128,6 +149,7 @@ impl Range {
     }
 
     /// This bit and all above it are known.
+    #[inline(always)]
     pub(crate) fn knows_from(&self, bit: u32) -> bool
         requires self_is { IsRange self.now }
         requires within { bit < 128 }
@@ -137,6 +159,7 @@ impl Range {
     }
 
     /// This bit is the highest that isn't known.
+    #[inline(always)]
     pub(crate) fn is_highest_unknown(&self, bit: u32) -> bool
         requires self_is { IsRange self.now }
         requires within { bit < 128 }
@@ -146,6 +169,7 @@ impl Range {
     }
 
     /// The bits that are known: those above the highest in which the ends differ.
+    #[inline(always)]
     pub(crate) fn mask(&self) -> u128
         requires { IsRange self.now }
         ensures { result ≡ range_mask self.now }
@@ -161,6 +185,7 @@ impl Range {
     }
 
     /// The half in which this bit, the highest that isn't known, has this value.
+    #[inline(always)]
     pub(crate) fn half(&self, bit: u32, value: bool) -> Range
         requires within { bit < 128 }
         requires order { self.now.lo ≤ self.now.hi }

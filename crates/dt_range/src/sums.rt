@@ -6,6 +6,7 @@ ghost use Rattle.dt_range.specs.Forward.{not_range, sum_range, difference_range}
 use crate::Range;
 use dt_bits::ones;
 
+#[inline(always)]
 pub fn not_of(a: &Range) -> Range
     requires { IsRange a.now }
     ensures { result ≡ not_range a.now }
@@ -14,6 +15,7 @@ pub fn not_of(a: &Range) -> Range
     Range::between(a.width, most - a.hi, most - a.lo)
 }
 
+#[inline(always)]
 pub fn sum_of(a: &Range, b: &Range) -> Range
     requires a { IsRange a.now }
     requires b { IsRange b.now }
@@ -32,6 +34,7 @@ pub fn sum_of(a: &Range, b: &Range) -> Range
     }
 }
 
+#[inline(always)]
 pub fn difference_of(a: &Range, b: &Range) -> Range
     requires a { IsRange a.now }
     requires b { IsRange b.now }

@@ -7,6 +7,7 @@ use crate::Range;
 use dt_bits::{Width, low_ones, ones};
 
 /// The numbers that give a number of `outcome` when their lowest bits are dropped.
+#[inline(always)]
 fn spread_of(outcome: &Range, by: u32, width: Width) -> Range
     requires outcome { IsRange outcome.now }
     requires width { width.0 ≤ 128 }
@@ -20,6 +21,7 @@ fn spread_of(outcome: &Range, by: u32, width: Width) -> Range
 }
 
 /// The operand of Slice, where the slice goes up to its top bit.
+#[inline(always)]
 pub fn slice_back_of(outcome: &Range, hi: u32, lo: u32, width: Width) -> Range
     requires outcome { IsRange outcome.now }
     requires width { IsWidth width.0 }
@@ -39,6 +41,7 @@ pub fn slice_back_of(outcome: &Range, hi: u32, lo: u32, width: Width) -> Range
 }
 
 /// The operand of Shr, where what was dropped lies within the width.
+#[inline(always)]
 pub fn shr_back_of(outcome: &Range, by: u32) -> Range
     requires outcome { IsRange outcome.now }
     requires by { by < outcome.now.width.0 }
@@ -56,6 +59,7 @@ pub fn shr_back_of(outcome: &Range, by: u32) -> Range
 }
 
 /// The first operand of Concat, where the second is `low` bits wide.
+#[inline(always)]
 pub fn high_of(outcome: &Range, low: u32, width: Width) -> Range
     requires { low < 128 }
     ensures { result ≡ range_between width (outcome.now.lo / 2 ^ low) (outcome.now.hi / 2 ^ low) }
@@ -65,6 +69,7 @@ pub fn high_of(outcome: &Range, low: u32, width: Width) -> Range
 
 /// The second operand of Concat.
 #[tactic(auto, using(std::proofs::lemmas::Nat::and_mask))]
+#[inline(always)]
 pub fn low_of(outcome: &Range, width: Width) -> Range
     requires width { IsWidth width.0 }
     requires part { width.0 < 128 }

@@ -1,6 +1,4 @@
-pub mod Added
-pub mod Judged
-pub mod Declaring
-pub mod Kept
-pub mod Whole
+pub mod Names
+pub mod Demands
+pub mod Entries
 pub mod Choosing

@@ -1,6 +1,9 @@
 pub mod Limits
 pub mod Lists
-pub mod Lines
-pub mod Reading
-pub mod Drafts
 pub mod Choices
+pub mod Fault
+pub mod Line
+pub mod Entry
+pub mod Draft
+pub mod Read
+pub mod Laws

@@ -1,6 +1,6 @@
 ghost use Rattle.std.specs.Prelude.{◌≡◌, ◌≤◌, ◌<◌, ◌^◌, length, count_by};
 ghost use Rattle.dt_model.specs.Accepted.{accepted_data};
-ghost use Rattle.dt_model.specs.Data.{step_of};
+ghost use Rattle.dt_model.specs.ModelData.{act_of};
 ghost use Rattle.dt_model.specs.Faults.{is_read};
 ghost use Rattle.dt_request.specs.Lists.{IsList};
 ghost use Rattle.dt_request.specs.Choices.{read_nodes, widths_of, choice_count, choice_bits};
@@ -9,14 +9,14 @@ use crate::list::Requests;
 use dt_model::{Accepted, Act, Named, Node};
 
 fn is_read(act: &Act) -> bool
-    ensures { result ≡ is_read (step_of act.now) }
+    ensures { result ≡ is_read (act_of act.now) }
 {
     matches!(act, Act::Read { .. })
 }
 
 #[tactic(auto, using(std::proofs::lemmas::List::Sums::count_by_more_yes, std::proofs::lemmas::List::Sums::count_by_more_no))]
 fn reads_among(nodes: &[Node]) -> u64
-    ensures { result ≡ count_by (λ n. is_read (step_of n.act)) nodes.now }
+    ensures { result ≡ count_by (λ n. is_read (act_of n.act)) nodes.now }
 {
     let mut count = 0;
     for node in nodes {

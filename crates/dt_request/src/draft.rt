@@ -1,51 +1,25 @@
 ghost use Rattle.std.specs.Prelude.{◌≡◌, OnOk};
-ghost use Rattle.dt_request.specs.Drafts.{with_demand};
+ghost use Rattle.dt_request.specs.Draft.{with_demand};
 
+use crate::entry::Entry;
 use crate::list::{AccessWish, Demand, Requests};
 use dt_bits::{NoMemory, Seq};
 use dt_lex::Name;
 use std::alloc::Global;
 
-/// How far a text has come, by its last line.
-#[derive(Clone, Copy, Debug, PartialEq, Eq)]
-pub enum Part {
-    /// No line.
-    Start,
-    /// `requests 1`.
-    Head,
-    /// `tables LO HI`.
-    Bounds,
-    /// A context.
-    Contexts,
-    /// An access or a demand.
-    Accesses,
-    /// `end`.
-    Over,
-}
-
-/// What a line adds to a list, with the position of a context where a line has its name.
-#[derive(Clone, Copy, Debug, PartialEq, Eq)]
-pub enum Entry {
-    Header,
-    Tables(u128, u128),
-    Context(Name),
-    Access(Name, u32),
-    Demand(Demand),
-    End,
-}
-
 /// What the lines so far have declared.
 #[derive(Debug, Drop)]
 pub struct Draft {
-    pub part: Part,
+    /// How many sections of the text have come, up to that of the last line.
+    pub place: usize,
     pub lo: u128,
     pub hi: u128,
     pub contexts: Vec<Name>,
     pub accesses: Vec<AccessWish>,
 }
 
-#[tactic(auto, using(crate::proofs::Added::with_demand_set))]
-// Adds a demand to the last access, if there is one.
+/// Adds a demand to the last access, if there is one.
+#[tactic(auto, using(crate::proofs::Demands::with_demand_set))]
 fn add_demand(accesses: &mut Vec<AccessWish>, demand: Demand) -> Result<(), NoMemory>
     ensures { OnOk result (accesses.new.items ≡ with_demand accesses.old.items demand) }
 {
@@ -58,14 +32,14 @@ fn add_demand(accesses: &mut Vec<AccessWish>, demand: Demand) -> Result<(), NoMe
 
 impl Draft {
     ghost use Rattle.std.specs.Prelude.{◌≡◌, OnOk};
-    ghost use Rattle.dt_request.specs.Drafts.{drafted, nothing, added};
+    ghost use Rattle.dt_request.specs.Draft.{declared_by, nothing, added};
 
     /// What no line declares. It takes no memory.
     pub fn new(alloc: Global) -> Draft
-        ensures { drafted result ≡ nothing }
+        ensures { declared_by result ≡ nothing }
     {
         Draft {
-            part: Part::Start,
+            place: 0,
             lo: 0,
             hi: 0,
             contexts: Vec::new(alloc),
@@ -75,7 +49,7 @@ impl Draft {
 
     /// The list that was drafted, which has no links. It takes no memory.
     pub fn into_list(self, alloc: Global) -> Requests
-        ensures { result ≡ (drafted self).list }
+        ensures { result ≡ (declared_by self).list }
     {
         Requests {
             lo: self.lo,
@@ -88,21 +62,21 @@ impl Draft {
 
     /// Adds what a line adds.
     pub fn add(&mut self, alloc: Global, entry: Entry) -> Result<(), NoMemory>
-        ensures { OnOk result (drafted self.new ≡ added (drafted self.old) entry) }
+        ensures { OnOk result (declared_by self.new ≡ added (declared_by self.old) entry) }
     {
         match entry {
-            Entry::Header => self.part = Part::Head,
+            Entry::Header => self.place = 1,
             Entry::Tables(lo, hi) => {
-                self.part = Part::Bounds;
+                self.place = 2;
                 self.lo = lo;
                 self.hi = hi;
             }
             Entry::Context(name) => {
-                self.part = Part::Contexts;
+                self.place = 3;
                 self.contexts.push(name)?;
             }
             Entry::Access(name, context) => {
-                self.part = Part::Accesses;
+                self.place = 4;
                 self.accesses.push(AccessWish {
                     name,
                     context,
@@ -110,10 +84,10 @@ impl Draft {
                 })?;
             }
             Entry::Demand(demand) => {
-                self.part = Part::Accesses;
+                self.place = 4;
                 add_demand(&mut self.accesses, demand)?;
             }
-            Entry::End => self.part = Part::Over,
+            Entry::End => self.place = 5,
         }
         Ok(())
     }

@@ -1,15 +1,17 @@
 ghost use Rattle.std.specs.Prelude.{◌≡◌};
 ghost use Rattle.dt_request.specs.declared.fault.RequestFault.TheVariants as faults;
+ghost use Rattle.dt_request.specs.Fault.{at_line};
 
 use dt_bits::NoMemory;
 use dt_lex::LexFault;
 use std::alloc::AllocFailed;
+use std::fmt;
 
-/// Why a text is no request list: want of memory, or the first bad line, counted from 1, with the
+/// Why a text is no request list: memory ran out, or the first bad line, counted from 1, with the
 /// first thing in this order that is wrong with it.
 #[derive(Clone, Copy, Debug, PartialEq, Eq)]
 pub enum RequestFault {
-    /// Memory was wanted and not found.
+    /// Memory ran out.
     Memory,
     /// The bytes of the line are at fault; it is never `LexFault::Memory`.
     Lex(LexFault),
@@ -33,6 +35,75 @@ pub enum Cause {
     Unknown,
     Twice,
     OutOfRange,
+}
+
+/// The fault of the line of this number.
+pub fn at_line(number: u32, cause: Cause) -> RequestFault
+    ensures { result ≡ at_line number cause }
+{
+    match cause {
+        Cause::Form => RequestFault::Form(number),
+        Cause::TooMany => RequestFault::TooMany(number),
+        Cause::Unknown => RequestFault::Unknown(number),
+        Cause::Twice => RequestFault::Twice(number),
+        Cause::OutOfRange => RequestFault::OutOfRange(number),
+    }
+}
+
+impl RequestFault {
+    ghost use Rattle.std.specs.Prelude.{◌≡◌};
+    ghost use Rattle.dt_request.specs.Fault.{line_of, word_of};
+
+    /// The number of the bad line, from 1; None where memory ran out.
+    pub fn line(self) -> Option<u32>
+        ensures { result ≡ line_of self }
+    {
+        match self {
+            RequestFault::Memory => None,
+            RequestFault::Lex(fault) => fault.line(),
+            RequestFault::Form(line)
+            | RequestFault::TooMany(line)
+            | RequestFault::Unknown(line)
+            | RequestFault::Twice(line)
+            | RequestFault::OutOfRange(line) => Some(line),
+        }
+    }
+
+    /// The one word of the cause: `memory`, `long`, `byte`, `form`, `too-many`, `unknown`, `twice`
+    /// or `out-of-range`.
+    pub fn word(self) -> &'static str
+        ensures { result.now ≡ word_of self }
+    {
+        match self {
+            RequestFault::Memory => "memory",
+            RequestFault::Lex(fault) => fault.word(),
+            RequestFault::Form(_) => "form",
+            RequestFault::TooMany(_) => "too-many",
+            RequestFault::Unknown(_) => "unknown",
+            RequestFault::Twice(_) => "twice",
+            RequestFault::OutOfRange(_) => "out-of-range",
+        }
+    }
+}
+
+impl fmt::Display for RequestFault {
+    fn fmt<W: fmt::Write>(&self, f: &mut fmt::Formatter<W>) -> fmt::Result {
+        match self {
+            RequestFault::Memory => f.write_str("memory ran out"),
+            RequestFault::Lex(fault) => write!(f, "{fault}"),
+            RequestFault::Form(line) => write!(f, "line {line} is no line of a list here"),
+            RequestFault::TooMany(line) => {
+                write!(f, "line {line} has one context, access or demand too many")
+            }
+            RequestFault::Unknown(line) => {
+                write!(f, "line {line} names a context that isn't declared")
+            }
+            RequestFault::Twice(line) => write!(f, "line {line} has a name that is taken"),
+            RequestFault::OutOfRange(line) => {
+                write!(f, "line {line} has a number out of its range")
+            }
+        }
+    }
 }
 
 impl From<NoMemory> for RequestFault {

@@ -1,30 +1,30 @@
-//! Request lists: which accesses are wished for, what each must come to, how they lie to each other,
-//! and where tables may lie. A list names contexts and accesses; an access has a context and demands
+//! Request lists: which accesses are wished for, what each must come to, how they relate, and
+//! where tables may lie. A list names contexts and accesses; an access has a context and demands
 //! on its walk, and links are over the walks of two accesses. It is read for an accepted model, line
 //! by line, and refused by its first bad line; the texts that are read so far have demands on the
 //! ends of walks alone, and no links.
 //!
-//! Proved: `read_requests` gives exactly the list that the text spells by `list_in` of
-//! `specs/Reading.antt`, or exactly its fault, or want of memory; what it gives is a list of the
+//! Proved: `read_requests` gives exactly the list that the text spells by `reading` of
+//! `specs/Read.antt`, or exactly its fault, or want of memory; what it gives is a list of the
 //! model (`IsList` of `specs/Lists.antt`): bounds in whole words within the addresses, at most 16
 //! contexts and 64 accesses with names of their own, at most 64 demands each, positions of declared
 //! contexts, and codes of at most 65535; and it asks for ends alone (`AsksEndsAlone`). `choice_count`
 //! and `choice_bits` are exactly the formulas of `specs/Choices.antt`, and take no memory.
 //!
-//! Only tested: that reading succeeds where there is memory.
+//! A fault names exactly its line and its cause's word.
+//!
+//! Not proved: that reading succeeds where there is memory.
 #![tactic(auto)]
 
 mod counting;
 mod draft;
+mod entry;
 mod fault;
-mod judging;
 mod line;
 mod list;
-mod reading;
-#[cfg(test)]
-mod tests;
+mod read;
 
 pub use counting::{choice_bits, choice_count};
 pub use fault::RequestFault;
 pub use list::{AccessWish, Demand, Link, Quantity, Requests, Side};
-pub use reading::read_requests;
+pub use read::read_requests;

@@ -1,8 +1,8 @@
 ghost use Rattle.std.specs.Prelude.{◌≡◌};
 ghost use Rattle.dt_lex.specs.Text.{tokens_of};
-ghost use Rattle.dt_request.specs.Lines.{header_of, tables_of, context_of, access_of, asked_of, end_of, spelled};
+ghost use Rattle.dt_request.specs.Line.{tables_of, context_of, access_of, asked_of, spelled};
 
-use dt_lex::{Name, next_token, number};
+use dt_lex::{Name, is_alone, is_nothing, next_token, number};
 
 /// A demand as a line spells it, with a code of any size.
 #[derive(Clone, Copy, Debug, PartialEq, Eq)]
@@ -26,17 +26,6 @@ pub enum Line {
     Demand(Asked),
     /// `end`
     End,
-}
-
-fn header(tokens: &[u8]) -> Option<Line>
-    ensures { result ≡ header_of (tokens_of tokens.now) }
-{
-    let (token, after) = next_token(tokens)?;
-    if token == b"1".as_slice() && next_token(after).is_none() {
-        Some(Line::Header)
-    } else {
-        None
-    }
 }
 
 fn tables(tokens: &[u8]) -> Option<Line>
@@ -86,19 +75,13 @@ fn asked_demand(tokens: &[u8]) -> Option<Asked>
     }
 }
 
-fn end(tokens: &[u8]) -> Option<Line>
-    ensures { result ≡ end_of (tokens_of tokens.now) }
-{
-    next_token(tokens).is_none().then_some(Line::End)
-}
-
 /// The line that a first token and the text after it spell.
-#[tactic(auto, unfolding(crate::specs::Lines::spelled))]
+#[tactic(auto, unfolding(crate::specs::Line::spelled))]
 pub fn read_line(word: &[u8], tokens: &[u8]) -> Option<Line>
     ensures { result ≡ spelled word.now (tokens_of tokens.now) }
 {
     if word == b"requests".as_slice() {
-        return header(tokens);
+        return is_alone(b"1", tokens).then_some(Line::Header);
     }
     if word == b"tables".as_slice() {
         return tables(tokens);
@@ -113,7 +96,7 @@ pub fn read_line(word: &[u8], tokens: &[u8]) -> Option<Line>
         return Some(Line::Demand(asked_demand(tokens)?));
     }
     if word == b"end".as_slice() {
-        return end(tokens);
+        return is_nothing(tokens).then_some(Line::End);
     }
     None
 }

@@ -64,7 +64,7 @@ pub struct Side {
     pub node: u32,
 }
 
-/// How the walks of two accesses lie to each other. The reads of a link must be made, and its pages
+/// How the walks of two accesses relate. The reads of a link must be made, and its pages
 /// must exist. Accesses are named by their positions, and the two may be the same.
 #[derive(Clone, Copy, Debug, PartialEq, Eq)]
 pub enum Link {

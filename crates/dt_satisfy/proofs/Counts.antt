@@ -2,7 +2,7 @@
 use Rattle.std.proofs.Common.{◌≡◌, ℕ, suc, ◌*◌, ◌≤◌, List, [], ◌∷◌, ◌++◌, length, map, arith, length-append}
 use Rattle.std.specs.List.{flat_map, zip, All}
 use Rattle.std.proofs.lemmas.List.{length-map}
-use Rattle.dt_model.specs.Data.{Data}
+use Rattle.dt_model.specs.ModelData.{ModelData}
 use Rattle.dt_model.specs.Faults.{IsAccepted, steps}
 use Rattle.dt_model.proofs.Accepting.{few_context_rules, few_access_rules}
 use Rattle.dt_walk.specs.Meaning.{rule_holds}
@@ -15,14 +15,9 @@ use Rattle.dt_satisfy.specs.Demands.{Made, meets}
 use Rattle.dt_satisfy.specs.Links.{link_holds}
 use Rattle.dt_satisfy.specs.Claims.{registers, runs_of, all_made, context_claims, access_claims, demand_claims, link_claims, apart_claim, claims}
 use Rattle.dt_satisfy.specs.Satisfies.{Matches}
-use Rattle.dt_satisfy.proofs.Places.{same_length}
+use Rattle.dt_lemmas.proofs.Lists.{same_length, length_flat}
 
--- each element gives at most n
-length_flat : {X A : Type 0} (f : X → List A) (n : ℕ) → ((x : X) → length (f x) ≤ n) → (xs : List X) → length (flat_map f xs) ≤ length xs * n
-length_flat f n h [] = omega arith
-length_flat f n h (x ∷ xs) = let r = length_flat f n h xs in let s = h x in omega (arith, length-append (f x) (flat_map f xs), r, s)
-
-length_demands : (d : Data) (contexts : ℕ) (runs : List Made) (wishes : List AccessWish) → All (IsWish d contexts) wishes → length (flat_map (λ p. map (meets p.0) p.1.demands) (zip runs wishes)) ≤ length wishes * 64
+length_demands : (d : ModelData) (contexts : ℕ) (runs : List Made) (wishes : List AccessWish) → All (IsWish d contexts) wishes → length (flat_map (λ p. map (meets p.0) p.1.demands) (zip runs wishes)) ≤ length wishes * 64
 length_demands d contexts [] ws h = omega arith
 length_demands d contexts (r ∷ rs) [] h = omega arith
 length_demands d contexts (r ∷ rs) (w ∷ ws) h =
@@ -31,7 +26,7 @@ length_demands d contexts (r ∷ rs) (w ∷ ws) h =
     omega (arith, here.few_demands, more, length-map w.demands (meets r), length-append (map (meets r) w.demands) (flat_map (λ p. map (meets p.0) p.1.demands) (zip rs ws)))
 
 -- at most 16 contexts and 64 accesses with 32 rules each, 64 demands an access, 256 links, and the last claim
-pub few_claims : (d : Data) (r : Requests) (i : Image) → IsAccepted d → IsList d r → Matches r i → length (claims d r i) ≤ 6913
+pub few_claims : (d : ModelData) (r : Requests) (i : Image) → IsAccepted d → IsList d r → Matches r i → length (claims d r i) ≤ 6913
 few_claims d r i a l m =
     let contexts : length (context_claims d i) ≤ length i.contexts * 32 = length_flat (λ regs. map (rule_holds d regs []) d.legal_context) 32 (λ regs. omega (arith, few_context_rules d a, length-map d.legal_context (rule_holds d regs []))) i.contexts in
     let accesses : length (access_claims d i) ≤ length i.accesses * 32 = length_flat (λ (x : ImageAccess). map (rule_holds d (registers i x) x.inputs) d.legal_access) 32 (λ x. omega (arith, few_access_rules d a, length-map d.legal_access (rule_holds d (registers i x) x.inputs))) i.accesses in

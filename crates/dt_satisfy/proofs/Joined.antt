@@ -1,6 +1,6 @@
 -- The claims, one group after another.
 use Rattle.std.proofs.Common.{◌≡◌, Bool, List, [], ◌∷◌, ◌++◌, map, ap, ◌∙◌}
-use Rattle.dt_model.specs.Data.{Data, Step}
+use Rattle.dt_model.specs.ModelData.{ModelData, ActData}
 use Rattle.dt_model.specs.Faults.{steps}
 use Rattle.dt_walk.specs.Walks.{RunData}
 use Rattle.dt_request.specs.declared.list.Link.{Link}
@@ -10,7 +10,7 @@ use Rattle.dt_satisfy.specs.Blocks.{are_apart}
 use Rattle.dt_satisfy.specs.Links.{pages_of, tables_of, link_holds}
 use Rattle.dt_satisfy.specs.Claims.{runs_of, context_claims, access_claims, demand_claims, claims}
 
-pub joined : (d : Data) (r : Requests) (i : Image) (ps : List Step) (runs : List RunData) (links : List Link) (apart : Bool) (empty contexts accesses demands linked all : List Bool) → empty ≡ [] → contexts ≡ empty ++ context_claims d i → accesses ≡ contexts ++ access_claims d i → demands ≡ accesses ++ demand_claims d r i → linked ≡ demands ++ map (link_holds ps runs) links → all ≡ linked ++ apart ∷ [] → ps ≡ steps d → runs ≡ runs_of d i → links ≡ r.links → apart ≡ are_apart (pages_of runs) (tables_of ps runs) → all ≡ claims d r i
+pub joined : (d : ModelData) (r : Requests) (i : Image) (ps : List ActData) (runs : List RunData) (links : List Link) (apart : Bool) (empty contexts accesses demands linked all : List Bool) → empty ≡ [] → contexts ≡ empty ++ context_claims d i → accesses ≡ contexts ++ access_claims d i → demands ≡ accesses ++ demand_claims d r i → linked ≡ demands ++ map (link_holds ps runs) links → all ≡ linked ++ apart ∷ [] → ps ≡ steps d → runs ≡ runs_of d i → links ≡ r.links → apart ≡ are_apart (pages_of runs) (tables_of ps runs) → all ≡ claims d r i
 joined d r i ps runs links apart empty contexts accesses demands linked all h0 h1 h2 h3 h4 h5 p q l x =
     let e1 : contexts ≡ context_claims d i = h1 ∙ ap (λ (m : List Bool). m ++ context_claims d i) h0 in
     let e2 : accesses ≡ context_claims d i ++ access_claims d i = h2 ∙ ap (λ (m : List Bool). m ++ access_claims d i) e1 in

@@ -1,25 +1,21 @@
 -- When the walk of an access meets a demand.
-use Rattle.std.specs.Prelude.{◌≢◌, ℕ, ◌==◌, if◌then◌else◌, nat_le, bit_and, Bool, true, false, not, ◌&&◌, List, [], ◌∷◌, Option, Some, None, option_map, slice_get, find, All}
+use Rattle.std.specs.Prelude.{ℕ, ◌==◌, nat_le, bit_and, Bool, true, false, not, ◌&&◌, List, Option, Some, None, option_map, slice_get, find}
 use Rattle.std.specs.List.{list_any}
-use Rattle.dt_model.specs.Data.{Data, Step, read, branch}
-use Rattle.dt_model.specs.Faults.{steps}
 use Rattle.dt_walk.specs.declared.run.End.{End}
 use Rattle.dt_walk.specs.declared.run.End.TheVariants.{Done, Fault}
 use Rattle.dt_walk.specs.declared.run.ReadMade.{ReadMade}
+use Rattle.dt_walk.specs.declared.run.SideTaken.{SideTaken}
 use Rattle.dt_walk.specs.Walks.{RunData}
 use Rattle.dt_request.specs.declared.list.Quantity.{Quantity}
 use Rattle.dt_request.specs.declared.list.Quantity.TheVariants.{Reg, Input, Word, Cell, Pa}
 use Rattle.dt_request.specs.declared.list.Demand.{Demand}
 use Rattle.dt_request.specs.declared.list.Demand.TheVariants.{Via, Avoid, Take, EndDone, EndFault, Page, Bits, Span}
-use Rattle.dt_request.specs.declared.list.AccessWish.{AccessWish}
-use Rattle.dt_request.specs.declared.list.Requests.{Requests}
 
--- an access as it is made: the values of its context's registers and of its inputs, its run, and whether that leaves a node by `then` (true) or by its other side
+-- an access as it is made: the values of its context's registers and of its inputs, and its run
 pub record Made : Type 0 where
   pub regs : List ℕ
   pub inputs : List ℕ
   pub run : RunData
-  pub left_by : ℕ → Bool → Bool
 
 -- ---- ends
 
@@ -43,6 +39,15 @@ pa_of (Fault n code) = None
 
 abbrev pub visits : RunData → ℕ → Bool
 visits run n = list_any (λ m. m == n) run.path
+
+-- the side is this node's `then` (true), or its other side
+abbrev pub is_side : ℕ → Bool → SideTaken → Bool
+is_side n true s = s.node == n && s.by_then
+is_side n false s = s.node == n && not s.by_then
+
+-- the run leaves the node, an if or a read, by that side
+abbrev pub leaves : RunData → ℕ → Bool → Bool
+leaves run n by_then = list_any (is_side n by_then) run.sides
 
 -- the read that is made at a node, which a walk visits once at most
 abbrev pub read_at : RunData → ℕ → Option ReadMade
@@ -72,44 +77,9 @@ is_within lo hi n = nat_le lo n && nat_le n hi
 abbrev pub meets : Made → Demand → Bool
 meets a (Via n) = visits a.run n
 meets a (Avoid n) = not (visits a.run n)
-meets a (Take n by_then) = a.left_by n by_then
+meets a (Take n by_then) = leaves a.run n by_then
 meets a EndDone = is_done a.run.end
 meets a (EndFault code) = is_fault code a.run.end
 meets a (Page exponent) = is_page exponent a.run.end
 meets a (Bits q mask value) = has (value_of a q) (is_masked mask value)
 meets a (Span q lo hi) = has (value_of a q) (is_within lo hi)
-
--- ---- what a run tells of sides
-
-abbrev pub reads_at : RunData → ℕ → Bool
-reads_at run n = list_any (λ m. m.node == n) run.reads
-
--- the node that a path goes on at after this one
-abbrev pub next_after : ℕ → List ℕ → Option ℕ
-next_after n [] = None
-next_after n (m ∷ path) = if m == n then slice_get path 0 else next_after n path
-
-abbrev pub is_next : ℕ → Option ℕ → Bool
-is_next to None = false
-is_next to (Some n) = n == to
-
--- a read is left by `then` where it is made, an if where the path goes on at the target of `then`
-abbrev pub left_at : Option Step → RunData → ℕ → Bool → Bool
-left_at (Some (read x e g t o)) run n true = reads_at run n
-left_at (Some (read x e g t o)) run n false = visits run n && not (reads_at run n)
-left_at (Some (branch e t o)) run n true = is_next t (next_after n run.path)
-left_at (Some (branch e t o)) run n false = is_next o (next_after n run.path)
-left_at _ run n b = false
-
--- that is the side, but for an if whose sides lead to the same node
-abbrev pub IsTold : Option Step → Type 0
-IsTold (Some (branch e t o)) = t ≢ o
-IsTold _ = Unit {0}
-
-abbrev pub TellsSide : Data → Demand → Type 0
-TellsSide d (Take n by_then) = IsTold (slice_get (steps d) n)
-TellsSide d _ = Unit {0}
-
--- no demand of the list is on a side of an if whose sides lead to the same node
-pub record TellsSides (d : Data) (r : Requests) : Type 0 where
-  pub each : All (λ (a : AccessWish). All (TellsSide d) a.demands) r.accesses

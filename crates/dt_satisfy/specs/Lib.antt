@@ -1,7 +1,6 @@
 pub mod Blocks
-pub mod Turns
 pub mod Demands
-pub mod Seeing
+pub mod Views
 pub mod Links
 pub mod Claims
 pub mod Satisfies

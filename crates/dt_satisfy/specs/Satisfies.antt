@@ -1,6 +1,6 @@
 -- When an image meets a request list.
 use Rattle.std.specs.Prelude.{◌≡◌, ℕ, ◌+◌, Option, Some, None, length, map, IsTrue, All}
-use Rattle.dt_model.specs.Data.{Data}
+use Rattle.dt_model.specs.ModelData.{ModelData}
 use Rattle.dt_request.specs.declared.list.Requests.{Requests}
 use Rattle.dt_image.specs.declared.image.Image.{Image}
 use Rattle.dt_image.specs.Images.{IsImage}
@@ -16,7 +16,7 @@ pub record Matches (r : Requests) (i : Image) : Type 0 where
   pub accesses : map (λ a. a.context) i.accesses ≡ map (λ a. a.context) r.accesses
 
 -- the image is of the model, matches the list, and all claims hold
-pub record Satisfies (d : Data) (r : Requests) (i : Image) : Type 0 where
+pub record Satisfies (d : ModelData) (r : Requests) (i : Image) : Type 0 where
   pub image : IsImage d i
   pub matches : Matches r i
   pub claims : All IsTrue (claims d r i)

@@ -1,20 +1,15 @@
-ghost use Rattle.std.specs.Prelude.{◌≡◌, ◌==◌, ◌++◌, List, map, find, option_map, slice_get, OnOk};
+ghost use Rattle.std.specs.Prelude.{◌≡◌, ◌==◌, ◌++◌, List, map, find, option_map, OnOk};
 ghost use Rattle.std.specs.List.{list_any};
-ghost use Rattle.dt_model.specs.Flow.{steps_of};
-ghost use Rattle.dt_walk.specs.Walkers.{run_data};
-ghost use Rattle.dt_satisfy.specs.Demands.{is_done, is_fault, is_page, pa_of, value_of, has, is_masked, is_within, reads_at, next_after, is_next, left_at, meets};
-ghost use Rattle.dt_satisfy.specs.Seeing.{made_as};
+ghost use Rattle.dt_satisfy.specs.Demands.{is_done, is_fault, is_page, pa_of, value_of, has, is_masked, is_within, is_side, meets};
+ghost use Rattle.dt_satisfy.specs.Views.{made_data};
 
 use dt_bits::NoMemory;
-use dt_model::{Act, Node};
 use dt_request::{Demand, Quantity};
-use dt_walk::{End, ReadMade, Run};
+use dt_walk::{End, ReadMade, Run, SideTaken};
 
-/// An access as it is made: the nodes of its model, the values of its context's registers and of its
-/// inputs, and its run.
+/// An access as it is made: the values of its context's registers and of its inputs, and its run.
 #[derive(Clone, Copy)]
-pub struct Seen<'a> {
-    pub nodes: &'a [Node],
+pub struct MadeAccess<'a> {
     pub regs: &'a [u128],
     pub inputs: &'a [u128],
     pub run: &'a Run,
@@ -87,15 +82,15 @@ fn cell_of(made: Option<ReadMade>) -> Option<u128>
 }
 
 // The number that the quantity has, where the read is made or the end is a result.
-fn value_of(seen: &Seen, of: Quantity) -> Option<u128>
-    ensures { result ≡ value_of (made_as seen.now) of }
+fn value_of(made: &MadeAccess, of: Quantity) -> Option<u128>
+    ensures { result ≡ value_of (made_data made.now) of }
 {
     match of {
-        Quantity::Reg(i) => seen.regs.get(i as usize).copied(),
-        Quantity::Input(i) => seen.inputs.get(i as usize).copied(),
-        Quantity::Word(node) => word_of(read_at(seen.run.reads.as_slice(), node)),
-        Quantity::Cell(node) => cell_of(read_at(seen.run.reads.as_slice(), node)),
-        Quantity::Pa => pa_of(seen.run.end),
+        Quantity::Reg(i) => made.regs.get(i as usize).copied(),
+        Quantity::Input(i) => made.inputs.get(i as usize).copied(),
+        Quantity::Word(node) => word_of(read_at(made.run.reads.as_slice(), node)),
+        Quantity::Cell(node) => cell_of(read_at(made.run.reads.as_slice(), node)),
+        Quantity::Pa => pa_of(made.run.end),
     }
 }
 
@@ -119,85 +114,46 @@ fn is_within(number: Option<u128>, lo: u128, hi: u128) -> bool
     }
 }
 
-// Whether the run makes the read of the node.
-fn reads_at(run: &Run, node: u32) -> bool
-    ensures { result ≡ reads_at (run_data run.now) node }
+// Whether the side is this node's `then`, or its other side.
+fn is_side(side: SideTaken, node: u32, by_then: bool) -> bool
+    ensures { result ≡ is_side node by_then side }
 {
-    run.reads.iter().any(|made| made.node == node)
+    side.node == node && side.by_then == by_then
 }
 
-// The node that the path goes on at after this one.
-fn next_after(path: &[u32], node: u32) -> Option<u32>
-    ensures { result ≡ next_after node path.now }
+// Whether the run leaves the node, an `if` or a `read`, by that side.
+fn leaves(sides: &[SideTaken], node: u32, by_then: bool) -> bool
+    ensures { result ≡ list_any (is_side node by_then) sides.now }
 {
-    for (i, visited) in path.iter().enumerate() {
-        if *visited == node {
-            return path.get(i + 1).copied();
-        }
-    }
-    None
+    sides.iter().any(|side| is_side(*side, node, by_then))
 }
 
-// Whether the path goes on at `to` after the node.
-fn goes_on_at(path: &[u32], node: u32, to: u32) -> bool
-    ensures { result ≡ is_next to (next_after node path.now) }
-{
-    match next_after(path, node) {
-        None => false,
-        Some(next) => next == to,
-    }
-}
-
-// Whether the run leaves the node by `then`, or by its other side, as far as it tells.
-fn left_by(seen: &Seen, node: u32, by_then: bool) -> bool
-    ensures { result ≡ left_at (slice_get (steps_of seen.now.nodes.now) node)
-        (run_data seen.now.run.now) node by_then }
-{
-    let path = seen.run.path.as_slice();
-    match seen.nodes.get(node as usize) {
-        None => false,
-        Some(found) => match found.act {
-            Act::Read { .. } => {
-                if by_then {
-                    reads_at(seen.run, node)
-                } else {
-                    visits(path, node) && !reads_at(seen.run, node)
-                }
-            }
-            Act::If { then_to, other, .. } => {
-                if by_then {
-                    goes_on_at(path, node, then_to)
-                } else {
-                    goes_on_at(path, node, other)
-                }
-            }
-            _ => false,
-        },
-    }
-}
-
-// Whether the access meets the demand, as far as its run tells the sides by which it leaves nodes.
-fn meets(seen: &Seen, demand: Demand) -> bool
-    ensures { result ≡ meets (made_as seen.now) demand }
+// Whether the access meets the demand.
+fn meets(made: &MadeAccess, demand: Demand) -> bool
+    ensures { result ≡ meets (made_data made.now) demand }
 {
     match demand {
-        Demand::Via(node) => visits(seen.run.path.as_slice(), node),
-        Demand::Avoid(node) => !visits(seen.run.path.as_slice(), node),
-        Demand::Take { node, by_then } => left_by(seen, node, by_then),
-        Demand::EndDone => is_done(seen.run.end),
-        Demand::EndFault(code) => is_fault(code, seen.run.end),
-        Demand::Page(exponent) => is_page(exponent, seen.run.end),
-        Demand::Bits { of, mask, value } => is_masked(value_of(seen, of), mask, value),
-        Demand::Span { of, lo, hi } => is_within(value_of(seen, of), lo, hi),
+        Demand::Via(node) => visits(made.run.path.as_slice(), node),
+        Demand::Avoid(node) => !visits(made.run.path.as_slice(), node),
+        Demand::Take { node, by_then } => leaves(made.run.sides.as_slice(), node, by_then),
+        Demand::EndDone => is_done(made.run.end),
+        Demand::EndFault(code) => is_fault(code, made.run.end),
+        Demand::Page(exponent) => is_page(exponent, made.run.end),
+        Demand::Bits { of, mask, value } => is_masked(value_of(made, of), mask, value),
+        Demand::Span { of, lo, hi } => is_within(value_of(made, of), lo, hi),
     }
 }
 
-/// Appends whether each demand is met, as far as the run tells the sides by which it leaves nodes.
-pub fn push_demands(seen: &Seen, demands: &[Demand], claims: &mut Vec<bool>) -> Result<(), NoMemory>
-    ensures { OnOk result (claims.new.items ≡ claims.old.items ++ map (meets (made_as seen.now)) demands.now) }
+/// Appends whether the access meets each demand.
+pub fn push_demands(
+    made: &MadeAccess,
+    demands: &[Demand],
+    claims: &mut Vec<bool>,
+) -> Result<(), NoMemory>
+    ensures { OnOk result (claims.new.items ≡ claims.old.items ++ map (meets (made_data made.now)) demands.now) }
 {
     for demand in demands {
-        claims.push(meets(seen, *demand))?;
+        claims.push(meets(made, *demand))?;
     }
     Ok(())
 }

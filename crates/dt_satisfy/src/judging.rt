@@ -6,7 +6,6 @@ ghost use Rattle.dt_walk.specs.Walkers.{run_data};
 ghost use Rattle.dt_request.specs.Lists.{IsList};
 ghost use Rattle.dt_image.specs.Images.{IsImage};
 ghost use Rattle.dt_satisfy.specs.Blocks.{are_apart};
-ghost use Rattle.dt_satisfy.specs.Demands.{TellsSides};
 ghost use Rattle.dt_satisfy.specs.Links.{pages_of, tables_of};
 ghost use Rattle.dt_satisfy.specs.Claims.{claims};
 ghost use Rattle.dt_satisfy.specs.Satisfies.{Matches, Satisfies, verdict_of};
@@ -43,7 +42,7 @@ fn verdict(first: Option<usize>) -> Judged
 }
 
 // Whether no page of a run overlaps a table of any run.
-fn lie_apart(alloc: Global, nodes: &[Node], runs: &[Run]) -> Result<bool, NoMemory>
+fn are_pages_apart(alloc: Global, nodes: &[Node], runs: &[Run]) -> Result<bool, NoMemory>
     ensures { IfOk result (λ apart. apart ≡ are_apart (pages_of (map run_data runs.now))
         (tables_of (steps_of nodes.now) (map run_data runs.now))) }
 {
@@ -64,7 +63,6 @@ fn all_claims(
     requires image { IsImage (accepted_data model.now) image.now }
     requires matches { Matches requests.now image.now }
     requires list { IsList (accepted_data model.now) requests.now }
-    requires takes { TellsSides (accepted_data model.now) requests.now }
     ensures { IfOk result (λ held. held.items ≡ claims (accepted_data model.now) requests.now image.now) }
 {
     let mut claims = Vec::new(alloc);
@@ -79,7 +77,7 @@ fn all_claims(
         requests.links.as_slice(),
         &mut claims,
     )?;
-    claims.push(lie_apart(alloc, nodes, runs.as_slice())?)?;
+    claims.push(are_pages_apart(alloc, nodes, runs.as_slice())?)?;
     Ok(claims)
 }
 
@@ -87,8 +85,12 @@ fn all_claims(
 /// The claims are in order: for each context each context rule is 1; for each access each access
 /// rule is 1; for each access each of its demands is met by its run; each link holds; and last, one
 /// claim, no page of a run overlaps a table of any run. The image and the list are of the model, and
-/// match, and no demand is on a side of an if whose sides lead to the same node. It takes memory for a run of each access, and time for each
-/// access's walk, and for each page with each table.
+/// match. It takes memory for a run of each access, and time for each access's walk, and for each
+/// page with each table.
+///
+/// # Errors
+///
+/// `NoMemory` where memory ran out.
 pub fn judge(
     alloc: Global,
     model: &Accepted,
@@ -98,7 +100,6 @@ pub fn judge(
     requires list { IsList (accepted_data model.now) requests.now }
     requires image { IsImage (accepted_data model.now) image.now }
     requires matches { Matches requests.now image.now }
-    requires takes { TellsSides (accepted_data model.now) requests.now }
     ensures verdict { IfOk result (λ found. found ≡
         verdict_of (position not (claims (accepted_data model.now) requests.now image.now))) }
     ensures satisfies { IfOk result (λ found. (found ≡ Judged.Satisfies) ↔

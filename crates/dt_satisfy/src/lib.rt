@@ -5,11 +5,7 @@
 //! Proved: `matches` holds exactly where the image has the list's table bounds, as many contexts, as
 //! many accesses, and each access its context; `judge` gives `Satisfies` exactly where all claims of
 //! the list about the image hold, and else `Breaks` with the number, counted from 1, of the first
-//! that doesn't, for every list of the model in which no demand is on a side of an if whose sides lead
-//! to the same node (`TellsSides` of `specs/Demands.antt`): a run doesn't tell such sides apart. The
-//! definitions say what each demand means, also there.
-//!
-//! Only tested: that `judge` succeeds where there is memory; what `Debug` prints.
+//! that doesn't, for every list of the model. The definitions say what each demand means.
 #![tactic(auto)]
 
 mod block;
@@ -19,8 +15,6 @@ mod links;
 mod matching;
 mod rules;
 mod runs;
-#[cfg(test)]
-mod tests;
 mod verdict;
 
 pub use judging::judge;

@@ -1,13 +1,11 @@
 ghost use Rattle.std.specs.Prelude.{◌≡◌, ◌<◌, ◌++◌, List, ℕ, length, map, IfOk, OnOk};
 ghost use Rattle.dt_model.specs.Accepted.{accepted_data};
 ghost use Rattle.dt_walk.specs.Walkers.{run_data};
-ghost use Rattle.dt_request.specs.Lists.{IsList};
 ghost use Rattle.dt_image.specs.Images.{IsImage};
 ghost use Rattle.dt_satisfy.specs.Claims.{runs_of, demand_claims};
-ghost use Rattle.dt_satisfy.specs.Demands.{TellsSides};
 ghost use Rattle.dt_satisfy.specs.Satisfies.{Matches};
 
-use crate::demands::{Seen, push_demands};
+use crate::demands::{MadeAccess, push_demands};
 use dt_bits::NoMemory;
 use dt_image::Image;
 use dt_model::Accepted;
@@ -21,6 +19,7 @@ fn copy(alloc: Global, run: &Run) -> Result<Run, NoMemory>
 {
     Ok(Run {
         path: Vec::from_slice(alloc, run.path.as_slice())?,
+        sides: Vec::from_slice(alloc, run.sides.as_slice())?,
         reads: Vec::from_slice(alloc, run.reads.as_slice())?,
         end: run.end,
     })
@@ -43,35 +42,30 @@ pub fn all_runs(alloc: Global, model: &Accepted, image: &Image) -> Result<Vec<Ru
     Ok(runs)
 }
 
-/// Appends whether each access meets each of its demands, none of which is on a side of an if whose
-/// sides lead to the same node. The runs are those of the image.
+/// Appends whether each access meets each of its demands. The runs are those of the image.
 pub fn push_demand_claims(
-    model: &Accepted,
+    _model: &Accepted,
     requests: &Requests,
     image: &Image,
     runs: &[Run],
     claims: &mut Vec<bool>,
 ) -> Result<(), NoMemory>
-    requires image { IsImage (accepted_data model.now) image.now }
+    requires image { IsImage (accepted_data _model.now) image.now }
     requires matches { Matches requests.now image.now }
-    requires list { IsList (accepted_data model.now) requests.now }
-    requires takes { TellsSides (accepted_data model.now) requests.now }
-    requires runs { map run_data runs.now ≡ runs_of (accepted_data model.now) image.now }
+    requires runs { map run_data runs.now ≡ runs_of (accepted_data _model.now) image.now }
     ensures { OnOk result (claims.new.items ≡ claims.old.items
-        ++ demand_claims (accepted_data model.now) requests.now image.now) }
+        ++ demand_claims (accepted_data _model.now) requests.now image.now) }
 {
-    let nodes = model.model().nodes.as_slice();
     let contexts = image.contexts.as_slice();
     let accesses = image.accesses.as_slice();
     let wishes = requests.accesses.as_slice();
     for (i, access) in accesses.iter().enumerate() {
-        let seen = Seen {
-            nodes,
+        let made = MadeAccess {
             regs: contexts[access.context as usize].as_slice(),
             inputs: access.inputs.as_slice(),
             run: &runs[i],
         };
-        push_demands(&seen, wishes[i].demands.as_slice(), claims)?;
+        push_demands(&made, wishes[i].demands.as_slice(), claims)?;
     }
     Ok(())
 }

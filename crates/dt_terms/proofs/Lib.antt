@@ -1,5 +1,4 @@
 pub mod Placed
 pub mod Choices
-pub mod Adding
+pub mod Additions
 pub mod Valued
-pub mod Fitting

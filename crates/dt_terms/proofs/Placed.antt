@@ -1,39 +1,16 @@
 -- A node among the terms of a problem.
-use Rattle.std.proofs.Common.{◌≡◌, ℕ, ◌<◌, ◌≤◌, Bool, true, false, cond, List, length, take, Some, None, refl, sym, ap, ◌∙◌, subst, ◌⊎◌, inl, inr, arith}
+use Rattle.std.proofs.Common.{◌≡◌, ℕ, ◌<◌, ◌≤◌, true, List, length, take, Some, sym, ap, ◌∙◌, subst, ◌⊎◌, inl, inr, arith}
 use Rattle.std.proofs.lemmas.Bool.{cases_lt}
 use Rattle.std.proofs.lemmas.List.{get_or-take, length-take-le}
 use Rattle.dt_bits.specs.Bits.{IsWidth, width}
 use Rattle.dt_bits.specs.Ops.{IsOp, arity_of, fits_at, fits_of, width_of}
 use Rattle.dt_bits.specs.declared.op.Op.{Op}
-use Rattle.dt_bits.specs.declared.op.Op.TheVariants.{Const, Not, And, Or, Xor, Add, Sub, Slice, Concat, SignExt, Shl, Shr, Eq, Ltu, Ite}
 use Rattle.dt_bits.specs.declared.value.Width.{Width}
+use Rattle.dt_bits.proofs.Operators.{fits_same}
+use Rattle.dt_lemmas.proofs.Options.{some_if}
 use Rattle.dt_terms.specs.declared.term.Term.{Term}
 use Rattle.dt_terms.specs.declared.term.Term.TheVariants.{Choice, Node}
 use Rattle.dt_terms.specs.Terms.{width_of_term, term_at, bits_at, IsOperand, IsNode, IsFitting, AreTerms}
-
--- the widths of operands that an operator doesn't have don't count
-pub fits_same : (op : Op) (a b c x y z : ℕ) → (0 < arity_of op → a ≡ x) → (1 < arity_of op → b ≡ y) → (2 < arity_of op → c ≡ z)
-    → fits_of op a b c ≡ fits_of op x y z
-fits_same (Const v) a b c x y z p q r = refl
-fits_same Not a b c x y z p q r = let e : a ≡ x = p (omega arith) in cc
-fits_same And a b c x y z p q r = let e : a ≡ x = p (omega arith) in let f : b ≡ y = q (omega arith) in cc
-fits_same Or a b c x y z p q r = let e : a ≡ x = p (omega arith) in let f : b ≡ y = q (omega arith) in cc
-fits_same Xor a b c x y z p q r = let e : a ≡ x = p (omega arith) in let f : b ≡ y = q (omega arith) in cc
-fits_same Add a b c x y z p q r = let e : a ≡ x = p (omega arith) in let f : b ≡ y = q (omega arith) in cc
-fits_same Sub a b c x y z p q r = let e : a ≡ x = p (omega arith) in let f : b ≡ y = q (omega arith) in cc
-fits_same (Slice hi lo) a b c x y z p q r = let e : a ≡ x = p (omega arith) in cc
-fits_same Concat a b c x y z p q r = let e : a ≡ x = p (omega arith) in let f : b ≡ y = q (omega arith) in cc
-fits_same (SignExt to) a b c x y z p q r = let e : a ≡ x = p (omega arith) in cc
-fits_same (Shl by) a b c x y z p q r = let e : a ≡ x = p (omega arith) in cc
-fits_same (Shr by) a b c x y z p q r = let e : a ≡ x = p (omega arith) in cc
-fits_same Eq a b c x y z p q r = let e : a ≡ x = p (omega arith) in let f : b ≡ y = q (omega arith) in cc
-fits_same Ltu a b c x y z p q r = let e : a ≡ x = p (omega arith) in let f : b ≡ y = q (omega arith) in cc
-fits_same Ite a b c x y z p q r =
-    let e : a ≡ x = p (omega arith) in let f : b ≡ y = q (omega arith) in let g : c ≡ z = r (omega arith) in cc
-
-pub some_if : {X : Type 0} (b : Bool) (x y : X) → cond b (Some x) None ≡ Some y → (b ≡ true) × (x ≡ y)
-some_if true x y e = (refl, cc)
-some_if false x y e = absurd (cc)
 
 -- where the operator gives a width, it fits, and gives this one
 pub fits_parts : (op : Op) (a b c : ℕ) (w : Width) → fits_of op a b c ≡ Some w

@@ -14,7 +14,7 @@ use Rattle.dt_terms.specs.declared.term.Term.TheVariants.{Choice, Node}
 use Rattle.dt_terms.specs.Terms.{width_of_term, is_choice, term_at, bits_at, AreTerms, choice_at}
 use Rattle.dt_terms.specs.Values.{IsAssignment, AreFit, bv_at, value_of_term, first_values, values_of}
 use Rattle.dt_terms.proofs.Choices.{choice_there}
-use Rattle.dt_terms.proofs.Fitting.{value_fits}
+use Rattle.dt_bits.proofs.Operators.{value_fits}
 use Rattle.dt_terms.proofs.Placed.{IsPlaced, placed, fits_parts}
 
 -- a value of its term's width is one, and so is the 0 in place of one that isn't found yet

@@ -1,4 +1,4 @@
 pub mod Terms
 pub mod Problem
-pub mod Adding
+pub mod Additions
 pub mod Values

@@ -3,7 +3,7 @@
 //! of its width, and with that each term a value.
 //!
 //! Proved: `add_choice`, `add` and `require` do exactly what they say, refuse with exactly the
-//! first cause in their order, and after a refusal or want of memory the problem is as before;
+//! first cause in their order, and after a refusal, or where memory ran out, the problem is as before;
 //! every problem keeps its invariant (`specs/Problem.antt`). `choice_count`, `choice_term` and
 //! `is_assignment` are exact. `eval` writes exactly the values of the terms, and answers exactly
 //! whether each required term is 1 (`specs/Values.antt`). A term takes at most 96 bytes. Only
@@ -12,16 +12,14 @@
 //! Every call but `eval` and `is_assignment` takes constant time, apart from the growth of a list
 //! that is full; `eval` goes once over the terms.
 //!
-//! Only tested: that the calls which take memory succeed where there is enough.
+//! Only tested, in programs above: that the calls which take memory succeed where there is enough.
 #![tactic(auto)]
 
-mod evaluating;
+mod evaluation;
 mod fault;
-mod looking;
+mod lookup;
 mod problem;
 mod term;
-#[cfg(test)]
-mod tests;
 
 pub use fault::TermFault;
 pub use problem::Problem;

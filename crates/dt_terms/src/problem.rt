@@ -1,5 +1,5 @@
-use crate::evaluating::{are_ones, fill, fit_choices};
-use crate::looking::{is_full, node_over, number_at};
+use crate::evaluation::{are_ones, fill, fit_choices};
+use crate::lookup::{is_full, node_over, number_at};
 use crate::{Term, TermFault};
 use dt_bits::{NoMemory, Op, Seq, Width};
 use std::alloc::Global;
@@ -38,7 +38,7 @@ impl Problem {
     ghost use Rattle.dt_bits.specs.Ops.{IsOp};
     ghost use Rattle.dt_terms.specs.declared.term.Term.TheVariants.{Choice};
     ghost use Rattle.dt_terms.specs.Terms.{is_choice, term_at, choices_of};
-    ghost use Rattle.dt_terms.specs.Adding.{with_term, with_required, node_of, node_fault, choice_fault, require_fault};
+    ghost use Rattle.dt_terms.specs.Additions.{with_term, with_required, node_of, node_fault, choice_fault, require_fault};
     ghost use Rattle.dt_terms.specs.Values.{IsAssignment, values_of, solves};
 
     /// A problem without terms. It takes no memory yet, and so it doesn't fail.

@@ -1,221 +1,243 @@
--- Over a shelf that tells its files and had no fault, a row fixes its status.
-use Rattle.std.proofs.Common.{◌≡◌, ◌≢◌, ℕ, ◌≤◌, ◌<◌, ◌⊎◌, inl, inr, Bool, true, false, not, ltb, List, length, Option, Some, None, Ok, Err, refl, sym, subst, ◌∙◌}
-use Rattle.std.specs.Prelude.{MatchBool, All, IsTrue, position}
-use Rattle.std.proofs.lemmas.Bool.{le-ltb, lt-ltb}
-use Rattle.std.proofs.lemmas.List.Quantifiers.{position-Some}
+-- Over files that are told, where no read failed, a call comes to what words and files have.
+use Rattle.std.proofs.Common.{◌≡◌, ◌≢◌, ℕ, ◌+◌, ◌⊎◌, inl, inr, not, List, [], ◌∷◌, Option, Some, None, refl, sym, ap, subst, ◌∙◌}
+use Rattle.std.specs.Prelude.{Bool, IsTrue, All, position, codes}
 use Rattle.dt_edge.specs.Causes.{Rose}
-use Rattle.dt_edge.specs.Told.{Has, IsAbsent, IsLong}
-use Rattle.dt_model.specs.Data.{Data}
+use Rattle.dt_edge.specs.Told.{IsAbsent, IsLong, after}
+use Rattle.dt_model.specs.ModelData.{ModelData}
+use Rattle.dt_request.specs.Choices.{choice_count}
 use Rattle.dt_request.specs.declared.list.Requests.{Requests}
 use Rattle.dt_image.specs.declared.image.Image.{Image}
-use Rattle.dt_image.specs.Reading.{reading}
+use Rattle.dt_image.specs.Print.{printed}
 use Rattle.dt_satisfy.specs.Claims.{claims}
-use Rattle.dt_satisfy.specs.Satisfies.{Matches}
-use Rattle.dt_top.specs.Replayed.{IsUnmatched, IsRefusedText}
-use Rattle.dt_top.specs.Words.{Task, solve, replay, Job, form_of}
-use Rattle.dt_modeltext.specs.Reading.{IsModelText}
-use Rattle.dt_top.specs.Solved.{IsRequests}
-use Rattle.dt_top.specs.Table.{Seen, TaskRow, Row, OnBytes, OnJob, OnModel, OnList, OnTask, Writes, IsUnread, IsTooLong, limit}
-use Rattle.dt_top.specs.Due.{Files, Due, DueJob, DueFile, DueModel, DueRequests, DueTask, DueImage, DueClaims, DueZeros, IsMishap}
+use Rattle.dt_image.proofs.ReadImages.{reads_image}
+use Rattle.dt_satisfy.specs.Satisfies.{Satisfies, verdict_of}
+use Rattle.dt_satisfy.specs.declared.verdict.Judged.TheVariants as judged
+use Rattle.dt_satisfy.proofs.Verdicts.{satisfies_all}
+use Rattle.dt_top.specs.Course.{FileRead, Outcome, answers, needs}
+use Rattle.dt_top.specs.Files.{limit_of}
 use Rattle.dt_top.specs.Headline.{AskedFor, AskedToJudge}
+use Rattle.dt_top.specs.Lines.{read_fault_line, too_long_line, breaks_line}
+use Rattle.dt_top.specs.Record.{zero_record}
+use Rattle.dt_top.specs.Seen.{Seen, IsQuiet, HasAll}
+use Rattle.dt_top.specs.Table.{Ends, JobEnds, in_call, in_files, Row, Files, Expected, IsMemoryOrWriteFault, Comes, Writes}
+use Rattle.dt_top.specs.Zeros.{zero_image}
+use Rattle.dt_top.specs.commands.Jobs.{Job, solve, replay, job_of, files_of, Doing}
+use Rattle.dt_top.specs.commands.Solve.{ZerosSatisfy}
 use Rattle.dt_top.specs.declared.status.Status.{Status}
 use Rattle.dt_top.specs.declared.status.Status.TheVariants as status
+use Rattle.dt_top.proofs.Ended.{ends_along}
+use Rattle.dt_top.proofs.Single.{Stops, IsSingle, single_doing}
 
--- ---- at most one status is due
+-- ---- what is expected is one status and one text
 
-one_model : (bytes : List ℕ) (c d : Data) → IsModelText bytes c → IsModelText bytes d → c ≡ d
-one_model bytes c d p q = let e : Ok c ≡ Ok d = sym p.spelled ∙ q.spelled in cc
+-- the status and the text of an outcome
+abbrev Says : Files → Outcome → Status → List ℕ → Type 0
+Says files (answers came text) other line = (came ≡ other) × (text ≡ line)
+Says files (needs kind name) other line =
+    ((files name ≡ None) × (other ≡ status.ReadFault) × (line ≡ read_fault_line kind))
+    ⊎ (IsLong (Some files) name (limit_of kind) × (other ≡ status.TooLong) × (line ≡ too_long_line kind))
 
-one_list : (d : Data) (bytes : List ℕ) (k l : Requests) → IsRequests d bytes k → IsRequests d bytes l → k ≡ l
-one_list d bytes k l p q = let e : Ok k ≡ Ok l = sym p ∙ q in cc
+record Stopped (files : Files) (course : List FileRead → Outcome → Type 0) (came : Status) (text : List ℕ) : Type 0 where
+  given : List FileRead
+  out : Outcome
+  goes : course given out
+  has : HasAll (Some files) given
+  stops : Stops files out
+  says : Says files out came text
 
-zeros_one : (d : Data) (list : Requests) (a b : Status) → DueZeros d list a → DueZeros d list b → a ≡ b
-zeros_one d list a b (inl x) (inl y) = x.0 ∙ sym y.0
-zeros_one d list a b (inl x) (inr y) = absurd (y.1 x.1)
-zeros_one d list a b (inr x) (inl y) = absurd (x.1 y.1)
-zeros_one d list a b (inr x) (inr y) = x.0 ∙ sym y.0
+answered : (files : Files) (course : List FileRead → Outcome → Type 0) (came : Status) (text : List ℕ) (given : List FileRead) → course given (answers came text) → HasAll (Some files) given → Stopped files course came text
+answered files course came text given c h = record { given = given; out = answers came text; goes = c; has = h; stops = tt; says = (refl, refl) }
 
-claims_one : (d : Data) (list : Requests) (i : Image) (a b : Status) → DueClaims d list i a → DueClaims d list i b → a ≡ b
-claims_one d list i a b (inl x) (inl y) = x.0 ∙ sym y.0
-claims_one d list i a b (inl x) (inr y) = absurd (y.1 x.1)
-claims_one d list i a b (inr x) (inl y) = absurd (x.1 y.1)
-claims_one d list i a b (inr x) (inr y) = x.0 ∙ sym y.0
+stopped : (files : Files) (course : List FileRead → Outcome → Type 0) (came : Status) (text : List ℕ) → Ends (in_files ⊥ files) course came text → Stopped files course came text
+stopped files course status.ReadFault text h = let f = h.4 in record { given = h.0; out = needs h.1 h.2; goes = h.3; has = f.0; stops = inl f.1; says = inl (f.1, refl, h.5) }
+stopped files course status.TooLong text h = let f = h.4 in record { given = h.0; out = needs h.1 h.2; goes = h.3; has = f.0; stops = inr f.1; says = inr (f.1, refl, h.5) }
+stopped files course status.Memory text h = absurd h.0
+stopped files course status.Words text h = absurd h
+stopped files course status.WriteFault text h = absurd h
+stopped files course status.Good text h = answered files course status.Good text h.0 h.1 h.2
+stopped files course status.No text h = answered files course status.No text h.0 h.1 h.2
+stopped files course status.Spent text h = answered files course status.Spent text h.0 h.1 h.2
+stopped files course status.ModelRefused text h = answered files course status.ModelRefused text h.0 h.1 h.2
+stopped files course status.RequestsRefused text h = answered files course status.RequestsRefused text h.0 h.1 h.2
+stopped files course status.InputRefused text h = answered files course status.InputRefused text h.0 h.1 h.2
+stopped files course status.TooLarge text h = answered files course status.TooLarge text h.0 h.1 h.2
 
-one_image : (d : Data) (bytes : List ℕ) (i j : Image) → reading d bytes ≡ Ok i → reading d bytes ≡ Ok j → i ≡ j
-one_image d bytes i j p q = let e : Ok i ≡ Ok j = sym p ∙ q in cc
+absent_long : (files : Files) (name : List ℕ) (n : ℕ) → files name ≡ None → IsLong (Some files) name n → ⊥
+absent_long files name n e l = let k : None ≡ Some l.0 = sym e ∙ l.1 in cc
 
-image_one : (d : Data) (list : Requests) (bytes : List ℕ) (a b : Status) → DueImage d list bytes a → DueImage d list bytes b → a ≡ b
-image_one d list bytes a b (inl x) (inl y) = x.0 ∙ sym y.0
-image_one d list bytes a b (inl x) (inr y) = absurd (x.1 y.0 y.1)
-image_one d list bytes a b (inr x) (inl y) = absurd (y.1 x.0 x.1)
-image_one d list bytes a b (inr x) (inr y) =
-    claims_one d list x.0 a b x.2 (subst (λ i. DueClaims d list i b) (sym (one_image d bytes x.0 y.0 x.1.spelled y.1.spelled)) y.2)
+says_one : (files : Files) (out : Outcome) (a b : Status) (x y : List ℕ) → Says files out a x → Says files out b y → (a ≡ b) × (x ≡ y)
+says_one files (answers came text) a b x y p q = (sym p.0 ∙ q.0, sym p.1 ∙ q.1)
+says_one files (needs kind name) a b x y (inl p) (inl q) = (p.1 ∙ sym q.1, p.2 ∙ sym q.2)
+says_one files (needs kind name) a b x y (inl p) (inr q) = absurd (absent_long files name (limit_of kind) p.0 q.0)
+says_one files (needs kind name) a b x y (inr p) (inl q) = absurd (absent_long files name (limit_of kind) q.0 p.0)
+says_one files (needs kind name) a b x y (inr p) (inr q) = (p.1 ∙ sym q.1, p.2 ∙ sym q.2)
 
-file_one : (file : Option (List ℕ)) (next : List ℕ → Status → Type 0) (a b : Status)
-    → ((bytes : List ℕ) → next bytes a → next bytes b → a ≡ b) → DueFile file next a → DueFile file next b → a ≡ b
-file_one None next a b one x y = x ∙ sym y
-file_one (Some bytes) next a b one x y =
-    elim (ltb limit (length bytes)) as (λ t. MatchBool t (a ≡ status.TooLong) (next bytes a) → MatchBool t (b ≡ status.TooLong) (next bytes b) → a ≡ b) [
-      | true ↦ λ p q. p ∙ sym q
-      | false ↦ λ p q. one bytes p q
-    ] x y
+ends_one : (files : Files) (course : List FileRead → Outcome → Type 0) → IsSingle files course → (a b : Status) (x y : List ℕ)
+    → Ends (in_files ⊥ files) course a x → Ends (in_files ⊥ files) course b y → (a ≡ b) × (x ≡ y)
+ends_one files course one a b x y p q =
+    let s = stopped files course a x p in
+    let t = stopped files course b y q in
+    let same = one s.given t.given s.out t.out s.has t.has s.stops t.stops s.goes t.goes in
+    says_one files s.out a b x y s.says (subst (λ o. Says files o b y) (sym same) t.says)
 
-task_one : (files : Files) (task : Task) (d : Data) (list : Requests) (a b : Status) → DueTask files task d list a → DueTask files task d list b → a ≡ b
-task_one files (solve seed) d list a b x y = zeros_one d list a b x y
-task_one files (replay image) d list a b x y = file_one (files image) (DueImage d list) a b (λ bytes p q. image_one d list bytes a b p q) x y
+job_one : (files : Files) (job : Option Job) (a b : Status) (x y : List ℕ) → JobEnds (λ names. in_files ⊥ files) job a x → JobEnds (λ names. in_files ⊥ files) job b y → (a ≡ b) × (x ≡ y)
+job_one files None a b x y p q = (p.0 ∙ sym q.0, p.1 ∙ sym q.1)
+job_one files (Some job) a b x y p q = ends_one files (Doing job) (single_doing files job) a b x y p q
 
-requests_one : (files : Files) (task : Task) (d : Data) (bytes : List ℕ) (a b : Status) → DueRequests files task d bytes a → DueRequests files task d bytes b → a ≡ b
-requests_one files task d bytes a b (inl x) (inl y) = x.0 ∙ sym y.0
-requests_one files task d bytes a b (inl x) (inr y) = absurd (x.1 y.0 y.1)
-requests_one files task d bytes a b (inr x) (inl y) = absurd (y.1 x.0 x.1)
-requests_one files task d bytes a b (inr x) (inr y) =
-    task_one files task d x.0 a b x.2 (subst (λ l. DueTask files task d l b) (sym (one_list d bytes x.0 y.0 x.1 y.1)) y.2)
+-- ---- what a call comes to is expected
 
-model_one : (files : Files) (job : Job) (bytes : List ℕ) (a b : Status) → DueModel files job bytes a → DueModel files job bytes b → a ≡ b
-model_one files job bytes a b (inl x) (inl y) = x.0 ∙ sym y.0
-model_one files job bytes a b (inl x) (inr y) = absurd (x.1 y.0 y.1)
-model_one files job bytes a b (inr x) (inl y) = absurd (y.1 x.0 x.1)
-model_one files job bytes a b (inr x) (inr y) =
-    file_one (files job.requests) (DueRequests files job.task x.0) a b (λ text p q. requests_one files job.task x.0 text a b p q) x.2
-    (subst (λ d. DueFile (files job.requests) (DueRequests files job.task d) b) (sym (one_model bytes x.0 y.0 x.1 y.1)) y.2)
+no_want : (w : Type 0) (files : Files) (course : List FileRead → Outcome → Type 0) (came : Status) (text : List ℕ) → (came ≡ status.Memory → ⊥)
+    → Ends (in_files w files) course came text → Ends (in_files ⊥ files) course came text
+no_want w files course status.Memory text not h = absurd (not refl)
+no_want w files course status.ReadFault text not h = h
+no_want w files course status.TooLong text not h = h
+no_want w files course status.Words text not h = h
+no_want w files course status.WriteFault text not h = h
+no_want w files course status.Good text not h = h
+no_want w files course status.No text not h = h
+no_want w files course status.Spent text not h = h
+no_want w files course status.ModelRefused text not h = h
+no_want w files course status.RequestsRefused text not h = h
+no_want w files course status.InputRefused text not h = h
+no_want w files course status.TooLarge text not h = h
 
-job_one : (files : Files) (job : Option Job) (a b : Status) → DueJob files job a → DueJob files job b → a ≡ b
-job_one files None a b x y = x ∙ sym y
-job_one files (Some job) a b x y = file_one (files job.model) (DueModel files job) a b (λ bytes p q. model_one files job bytes a b p q) x y
+module _ (s : Seen) (files : Files) (told : s.told ≡ Some files) (quiet : Rose s.faults s.faults_after → ⊥) where
+  has : (given : List FileRead) → HasAll s.told given → HasAll (Some files) given
+  has given h = subst (λ t. HasAll t given) told h
 
-pub due_one : (words : List (List ℕ)) (files : Files) (a b : Status) → Due words files a → Due words files b → a ≡ b
-due_one words files a b x y = job_one files (form_of words) a b x y
+  job_expected : (job : Option Job) (came : Status) (text : List ℕ) → (came ≡ status.Memory → ⊥) → JobEnds (in_call s) job came text → JobEnds (λ names. in_files ⊥ files) job came text
+  job_expected None came text not h = (h.0, h.1, tt)
+  job_expected (Some job) came text not h =
+      no_want (Unit {0}) files (Doing job) came text not
+      (ends_along (in_call s (files_of job)) (in_files (Unit {0}) files) (Doing job) (Doing job) (λ given. given) (λ given out g. g)
+      (λ given g. has given g.0)
+      (λ given name g. (has given g.0, elim g.2 [ inl rose ↦ absurd (quiet rose) | inr none ↦ subst (λ t. IsAbsent t name) told none ]))
+      (λ given file name g. let l = g.2 in (has given g.0, subst (λ t. IsLong t name (limit_of file)) told l.0))
+      (λ g. tt) came text h)
 
--- ---- a row's status is due
+  came_exactly : (words : List (List ℕ)) (came due : Status) (text want : List ℕ) → (came ≡ status.Memory → ⊥) → Row s words came text → Expected words files due want → (came ≡ due) × (text ≡ want)
+  came_exactly words came due text want not row d = job_one files (job_of words) came due text want (job_expected (job_of words) came text not row) d
 
--- the bytes of a file decide
-read : (file : Option (List ℕ)) (bytes : List ℕ) (next : List ℕ → Status → Type 0) (due : Status)
-    → file ≡ Some bytes → length bytes ≤ limit → next bytes due → DueFile file next due
-read file bytes next due e le n =
-    subst (λ f. DueFile f next due) (sym e) (subst (λ t. MatchBool t (due ≡ status.TooLong) (next bytes due)) (sym (le-ltb limit (length bytes) le)) n)
+  mishap_or : (came : Status) → IsMemoryOrWriteFault came ⊎ ((came ≡ status.Memory → ⊥) × (came ≡ status.WriteFault → ⊥))
+  mishap_or status.Memory = inl (inl refl)
+  mishap_or status.WriteFault = inl (inr refl)
+  mishap_or status.Good = inr ((λ e. cc e), (λ e. cc e))
+  mishap_or status.No = inr ((λ e. cc e), (λ e. cc e))
+  mishap_or status.Spent = inr ((λ e. cc e), (λ e. cc e))
+  mishap_or status.Words = inr ((λ e. cc e), (λ e. cc e))
+  mishap_or status.ModelRefused = inr ((λ e. cc e), (λ e. cc e))
+  mishap_or status.RequestsRefused = inr ((λ e. cc e), (λ e. cc e))
+  mishap_or status.InputRefused = inr ((λ e. cc e), (λ e. cc e))
+  mishap_or status.ReadFault = inr ((λ e. cc e), (λ e. cc e))
+  mishap_or status.TooLong = inr ((λ e. cc e), (λ e. cc e))
+  mishap_or status.TooLarge = inr ((λ e. cc e), (λ e. cc e))
 
-long : (file : Option (List ℕ)) (bytes : List ℕ) (next : List ℕ → Status → Type 0)
-    → file ≡ Some bytes → limit < length bytes → DueFile file next status.TooLong
-long file bytes next e lt =
-    subst (λ f. DueFile f next status.TooLong) (sym e) (subst (λ t. MatchBool t (status.TooLong ≡ status.TooLong) (next bytes status.TooLong)) (sym (lt-ltb limit (length bytes) lt)) refl)
+  pub comes_exactly : (words : List (List ℕ)) (came : Status) (old new : Option (List ℕ)) (sent sent_after : Option (List (List ℕ)))
+      → (came ≢ status.WriteFault → Writes (Row s words came) old new sent sent_after) → (due : Status) (want : List ℕ) → Expected words files due want → Comes due want came old new
+  comes_exactly words came old new sent sent_after writes due want d =
+      elim (mishap_or came) [
+        | inl m ↦ inr m
+        | inr not ↦
+            let w = writes not.1 in
+            let e = came_exactly words came due w.0 want not.0 w.1 d in
+            inl (e.0, w.2 ∙ ap (after old) e.1)
+      ]
 
--- for an accepted model and a list, `solve` is decided by the image of zeros
-pub due_answer : (words : List (List ℕ)) (files : Files) (d : Data) (list : Requests) (due : Status) → AskedFor words files d list → DueZeros d list due → Due words files due
-due_answer words files d list due a z =
-    let m = a.model in
-    let r = a.requests in
-    let t = subst (λ task. DueTask files task d list due) (sym a.task) z in
-    subst (λ j. DueJob files j due) (sym a.form)
-    (read (files a.job.model) m.0 (DueModel files a.job) due m.1 m.2
-    (inr (d, m.3, read (files a.job.requests) r.0 (DueRequests files a.job.task d) due r.1 r.2 (inr (list, r.3, t)))))
+-- ---- the headlines
 
--- for an accepted model, a list and an image that matches it, `replay` is decided by the claims
-pub due_judgement : (words : List (List ℕ)) (files : Files) (d : Data) (list : Requests) (i : Image) (due : Status) → AskedToJudge words files d list i → DueClaims d list i due → Due words files due
-due_judgement words files d list i due a z =
-    let m = a.model in
-    let r = a.requests in
-    let f = a.image in
-    let t = subst (λ task. DueTask files task d list due) (sym a.task) (read (files a.name) f.0 (DueImage d list) due f.1 f.2 (inr (i, f.3, z))) in
-    subst (λ j. DueJob files j due) (sym a.form)
-    (read (files a.job.model) m.0 (DueModel files a.job) due m.1 m.2
-    (inr (d, m.3, read (files a.job.requests) r.0 (DueRequests files a.job.task d) due r.1 r.2 (inr (list, r.3, t)))))
+expected_answer : (words : List (List ℕ)) (files : Files) (d : ModelData) (list : Requests) → (a : AskedFor words files d list) → (came : Status) (text : List ℕ)
+    → JobEnds (λ names. in_files ⊥ files) (Some (solve a.job)) came text → Expected words files came text
+expected_answer words files d list a came text h = subst (λ j. JobEnds (λ names. in_files ⊥ files) j came text) (sym a.form) h
 
--- a text that is refused is none of an image that matches the list
-refused_none : (d : Data) (list : Requests) (bytes text : List ℕ) → IsRefusedText d list bytes text → IsUnmatched d list bytes
-refused_none d list bytes text (inl x) = λ i m. let e : Err x.0 ≡ Ok i = sym x.1 ∙ m.spelled in absurd cc
-refused_none d list bytes text (inr x) = λ i m. x.2 (subst (λ j. Matches list j) (sym (one_image d bytes x.0 i x.1 m.spelled)) m.matches)
+pub expected_image : (words : List (List ℕ)) (files : Files) (d : ModelData) (list : Requests) → AskedFor words files d list → ZerosSatisfy d list → Expected words files status.Good (printed (zero_image d list))
+expected_image words files d list a z =
+    let m = a.model in let r = a.requests in
+    expected_answer words files d list a status.Good (printed (zero_image d list)) (
+      record { name = a.job.model; bytes = m.0 } ∷ record { name = a.job.requests; bytes = r.0 } ∷ [],
+      (refl, m.2, inr (d, m.3, (refl, r.2, inr (list, r.3, inl (z, refl))))),
+      (m.1, (r.1, tt)),
+    )
 
--- where a claim is broken, not all hold
-one_broken : (held : List Bool) (k : ℕ) → position not held ≡ Some k → All IsTrue held → ⊥
-one_broken held k e h =
-    let p = position-Some not held k true e in
-    let broken : not true ≡ true = subst (λ b. not b ≡ true) (h k true p.0) p.1 in
-    absurd cc
+pub expected_record : (words : List (List ℕ)) (files : Files) (d : ModelData) (list : Requests) → AskedFor words files d list → (ZerosSatisfy d list → ⊥) → Expected words files status.Spent (zero_record (choice_count d list))
+expected_record words files d list a z =
+    let m = a.model in let r = a.requests in
+    expected_answer words files d list a status.Spent (zero_record (choice_count d list)) (
+      record { name = a.job.model; bytes = m.0 } ∷ record { name = a.job.requests; bytes = r.0 } ∷ [],
+      (refl, m.2, inr (d, m.3, (refl, r.2, inr (list, r.3, inr (z, refl))))),
+      (m.1, (r.1, tt)),
+    )
 
-module _ (s : Seen) (words : List (List ℕ)) (files : Files) (told : s.told ≡ Some files) (quiet : Rose s.faults s.faults_after → ⊥) where
-  unread : (name : List ℕ) (next : List ℕ → Status → Type 0) → IsUnread s name → DueFile (files name) next status.ReadFault
-  unread name next (inl rose) = absurd (quiet rose)
-  unread name next (inr none) = let e : files name ≡ None = subst (λ o. IsAbsent o name) told none in subst (λ f. DueFile f next status.ReadFault) (sym e) refl
+expected_judgement : (words : List (List ℕ)) (files : Files) (d : ModelData) (list : Requests) (i : Image) → (a : AskedToJudge words files d list i) → (came : Status) (text : List ℕ)
+    → JobEnds (λ names. in_files ⊥ files) (Some (replay a.job)) came text → Expected words files came text
+expected_judgement words files d list i a came text h = subst (λ j. JobEnds (λ names. in_files ⊥ files) j came text) (sym a.form) h
 
-  too_long : (name : List ℕ) (next : List ℕ → Status → Type 0) → IsTooLong s name → DueFile (files name) next status.TooLong
-  too_long name next h = let l = subst (λ o. IsLong o name limit) told h.0 in long (files name) l.0 next l.1 l.2
+pub expected_yes : (words : List (List ℕ)) (files : Files) (d : ModelData) (list : Requests) (i : Image) → AskedToJudge words files d list i → Satisfies d list i → Expected words files status.Good (codes "satisfies\n")
+expected_yes words files d list i a z =
+    let m = a.model in let r = a.requests in let f = a.image in
+    expected_judgement words files d list i a status.Good (codes "satisfies\n") (
+      record { name = a.job.model; bytes = m.0 } ∷ record { name = a.job.requests; bytes = r.0 } ∷ record { name = a.job.image; bytes = f.0 } ∷ [],
+      (refl, m.2, inr (d, m.3, (refl, r.2, inr (list, r.3, (refl, f.2, inr (i, f.3, inl (z, refl))))))),
+      (m.1, (r.1, (f.1, tt))),
+    )
 
-  on_bytes : {P : List ℕ → Type 0} (due : Status) (name : List ℕ) (next : List ℕ → Status → Type 0) → OnBytes s name P → ((bytes : List ℕ) → P bytes → next bytes due) → DueFile (files name) next due
-  on_bytes due name next h f = read (files name) h.0 next due (subst (λ o. Has o name h.0) told h.1) h.2 (f h.0 h.3)
+expected_no : (words : List (List ℕ)) (files : Files) (d : ModelData) (list : Requests) (i : Image) → AskedToJudge words files d list i → (k : ℕ) → position not (claims d list i) ≡ Some k → Expected words files status.No (breaks_line (k + 1))
+expected_no words files d list i a k z =
+    let m = a.model in let r = a.requests in let f = a.image in
+    expected_judgement words files d list i a status.No (breaks_line (k + 1)) (
+      record { name = a.job.model; bytes = m.0 } ∷ record { name = a.job.requests; bytes = r.0 } ∷ record { name = a.job.image; bytes = f.0 } ∷ [],
+      (refl, m.2, inr (d, m.3, (refl, r.2, inr (list, r.3, (refl, f.2, inr (i, f.3, inr (k, z, refl))))))),
+      (m.1, (r.1, (f.1, tt))),
+    )
 
-  on_job : {P : Job → Type 0} (due : Status) → OnJob words P → ((job : Job) → P job → DueJob files (Some job) due) → Due words files due
-  on_job due h f = subst (λ j. DueJob files j due) (sym h.1) (f h.0 h.2)
+first_broken : (o : Option ℕ) (xs : List Bool) → position not xs ≡ o → (All IsTrue xs → ⊥) → (k : ℕ) × (position not xs ≡ Some k)
+first_broken None xs e h = absurd (h (satisfies_all xs judged.Satisfies (sym (ap verdict_of e)) refl))
+first_broken (Some k) xs e h = (k, e)
 
-  past_model : {P : Job → Data → Type 0} (due : Status) → OnModel s words P → ((job : Job) (d : Data) → P job d → DueFile (files job.requests) (DueRequests files job.task d) due) → Due words files due
-  past_model due h f = on_job due h (λ job b. on_bytes due job.model (DueModel files job) b (λ bytes m. inr (m.0, m.1, f job m.0 m.2)))
+pub expected_unmet : (words : List (List ℕ)) (files : Files) (d : ModelData) (list : Requests) (i : Image) → AskedToJudge words files d list i → (Satisfies d list i → ⊥)
+    → (k : ℕ) × (position not (claims d list i) ≡ Some k) × Expected words files status.No (breaks_line (k + 1))
+expected_unmet words files d list i a n =
+    let m = a.model in let f = a.image in
+    let text = m.3 in let matching = f.3 in
+    let image = reads_image d f.0 i text.accepted matching.spelled in
+    let k = first_broken (position not (claims d list i)) (claims d list i) refl (λ c. n (record { image = image; matches = matching.matches; claims = c })) in
+    (k.0, k.1, expected_no words files d list i a k.0 k.1)
 
-  past_list : {P : Job → Data → Requests → Type 0} (due : Status) → OnList s words P → ((job : Job) (d : Data) (list : Requests) → P job d list → DueTask files job.task d list due) → Due words files due
-  past_list due h f = past_model due h (λ job d b. on_bytes due job.requests (DueRequests files job.task d) b (λ bytes l. inr (l.0, l.1, f job d l.0 l.2)))
+-- ---- what else a row says
 
-  task_due : (came : Status) (text : List ℕ) → (came ≡ status.Memory → ⊥) → (task : Task) (d : Data) (list : Requests) → TaskRow s task d list came text → DueTask files task d list came
-  task_due status.Good text h (solve seed) d list r = inl (refl, r.0)
-  task_due status.Spent text h (solve seed) d list r = inr (refl, r.0)
-  task_due status.Memory text h (solve seed) d list r = absurd (h refl)
-  task_due status.No text h (solve seed) d list r = absurd r
-  task_due status.Words text h (solve seed) d list r = absurd r
-  task_due status.ModelRefused text h (solve seed) d list r = absurd r
-  task_due status.RequestsRefused text h (solve seed) d list r = absurd r
-  task_due status.InputRefused text h (solve seed) d list r = absurd r
-  task_due status.ReadFault text h (solve seed) d list r = absurd r
-  task_due status.WriteFault text h (solve seed) d list r = absurd r
-  task_due status.TooLong text h (solve seed) d list r = absurd r
-  task_due status.TooLarge text h (solve seed) d list r = absurd r
-  task_due status.Good text h (replay name) d list r = on_bytes status.Good name (DueImage d list) r (λ bytes i. inr (i.0, i.1, inl (refl, i.2.0)))
-  task_due status.No text h (replay name) d list r =
-      on_bytes status.No name (DueImage d list) r (λ bytes i. inr (i.0, i.1, inr (refl, λ met. one_broken (claims d list i.0) i.2.0 i.2.1 met.claims)))
-  task_due status.InputRefused text h (replay name) d list r =
-      on_bytes status.InputRefused name (DueImage d list) r (λ bytes u. inl (refl, refused_none d list bytes text u))
-  task_due status.ReadFault text h (replay name) d list r = unread name (DueImage d list) r.0
-  task_due status.TooLong text h (replay name) d list r = too_long name (DueImage d list) r.0
-  task_due status.Memory text h (replay name) d list r = absurd (h refl)
-  task_due status.Spent text h (replay name) d list r = absurd r
-  task_due status.Words text h (replay name) d list r = absurd r
-  task_due status.ModelRefused text h (replay name) d list r = absurd r
-  task_due status.RequestsRefused text h (replay name) d list r = absurd r
-  task_due status.WriteFault text h (replay name) d list r = absurd r
-  task_due status.TooLarge text h (replay name) d list r = absurd r
+-- memory ran out only with no text
+pub row_memory : (s : Seen) (job : Option Job) (came : Status) (text : List ℕ) → came ≡ status.Memory → JobEnds (in_call s) job came text → text ≡ []
+row_memory s None came text e h = let k : status.Memory ≡ status.Words = sym e ∙ h.0 in absurd cc
+row_memory s (Some job) came text e h = let k = subst (λ c. Ends (in_call s (files_of job)) (Doing job) c text) e h in k.1
 
-  past_task : (came : Status) (text : List ℕ) → (came ≡ status.Memory → ⊥) → OnTask s words came text → Due words files came
-  past_task came text h o = past_list came o (λ job d list r. task_due came text h job.task d list r)
+-- the words have a form where they aren't refused, and none where they are
+pub row_words : (s : Seen) (job : Option Job) (came : Status) (text : List ℕ) → job ≡ None → JobEnds (in_call s) job came text → came ≡ status.Words
+row_words s None came text e h = h.0
+row_words s (Some job) came text e h = absurd (cc e)
 
-  row_due : (came : Status) (text : List ℕ) → Row s words came text → Due words files came ⊎ (came ≡ status.Memory)
-  row_due status.Good text h = inl (past_task status.Good text (λ e. cc e) h)
-  row_due status.No text h = inl (past_task status.No text (λ e. cc e) h)
-  row_due status.Spent text h = inl (past_task status.Spent text (λ e. cc e) h)
-  row_due status.Words text h = inl (subst (λ j. DueJob files j status.Words) (sym h.0) refl)
-  row_due status.ModelRefused text h = inl (on_job status.ModelRefused h (λ job b. on_bytes status.ModelRefused job.model _ b (λ bytes m. inl (refl, m.none))))
-  row_due status.RequestsRefused text h = inl (past_model status.RequestsRefused h (λ job d b. on_bytes status.RequestsRefused job.requests _ b (λ bytes l. inl (refl, l.0))))
-  row_due status.InputRefused text h = inl (past_task status.InputRefused text (λ e. cc e) h)
-  row_due status.ReadFault text (inl h) = inl (on_job status.ReadFault h (λ job u. unread job.model _ u.0))
-  row_due status.ReadFault text (inr (inl h)) = inl (past_model status.ReadFault h (λ job d u. unread job.requests _ u.0))
-  row_due status.ReadFault text (inr (inr h)) = inl (past_task status.ReadFault text (λ e. cc e) h)
-  row_due status.TooLong text (inl h) = inl (on_job status.TooLong h (λ job u. too_long job.model _ u.0))
-  row_due status.TooLong text (inr (inl h)) = inl (past_model status.TooLong h (λ job d u. too_long job.requests _ u.0))
-  row_due status.TooLong text (inr (inr h)) = inl (past_task status.TooLong text (λ e. cc e) h)
-  row_due status.Memory text h = inr refl
-  row_due status.WriteFault text h = absurd h
-  row_due status.TooLarge text h = absurd h
+pub row_words_only : (s : Seen) (job : Option Job) (came : Status) (text : List ℕ) → came ≡ status.Words → JobEnds (in_call s) job came text → job ≡ None
+row_words_only s None came text e h = refl
+row_words_only s (Some job) came text e h = absurd (subst (λ c. Ends (in_call s (files_of job)) (Doing job) c text) e h)
 
-  exactly : (came due : Status) → Due words files due → Due words files came ⊎ (came ≡ status.Memory) → (came ≡ due) ⊎ IsMishap came
-  exactly came due d (inl h) = inl (due_one words files came due h d)
-  exactly came due d (inr e) = inr (inl e)
+quiet_ends : (s : Seen) (names : List (List ℕ)) (course : List FileRead → Outcome → Type 0) (came : Status) (text : List ℕ) → came ≢ status.ReadFault → Ends (in_call s names) course came text → IsQuiet s
+quiet_ends s names course status.ReadFault text not h = absurd (not refl)
+quiet_ends s names course status.TooLong text not h = let f = h.4 in f.3
+quiet_ends s names course status.Memory text not h = let f = h.0 in f.1
+quiet_ends s names course status.Words text not h = absurd h
+quiet_ends s names course status.WriteFault text not h = absurd h
+quiet_ends s names course status.Good text not h = let f = h.2 in f.2
+quiet_ends s names course status.No text not h = let f = h.2 in f.2
+quiet_ends s names course status.Spent text not h = let f = h.2 in f.2
+quiet_ends s names course status.ModelRefused text not h = let f = h.2 in f.2
+quiet_ends s names course status.RequestsRefused text not h = let f = h.2 in f.2
+quiet_ends s names course status.InputRefused text not h = let f = h.2 in f.2
+quiet_ends s names course status.TooLarge text not h = let f = h.2 in f.2
 
-  pub came_due : (came : Status) (old new : Option (List ℕ)) (sent sent_after : Option (List (List ℕ)))
-      → (came ≢ status.WriteFault → Writes (Row s words came) old new sent sent_after) → (due : Status) → Due words files due → (came ≡ due) ⊎ IsMishap came
-  came_due status.WriteFault old new sent sent_after w due d = inr (inr refl)
-  came_due status.Good old new sent sent_after w due d = let h = w (λ e. cc e) in exactly _ due d (row_due status.Good h.0 h.1)
-  came_due status.No old new sent sent_after w due d = let h = w (λ e. cc e) in exactly _ due d (row_due status.No h.0 h.1)
-  came_due status.Spent old new sent sent_after w due d = let h = w (λ e. cc e) in exactly _ due d (row_due status.Spent h.0 h.1)
-  came_due status.Words old new sent sent_after w due d = let h = w (λ e. cc e) in exactly _ due d (row_due status.Words h.0 h.1)
-  came_due status.ModelRefused old new sent sent_after w due d = let h = w (λ e. cc e) in exactly _ due d (row_due status.ModelRefused h.0 h.1)
-  came_due status.RequestsRefused old new sent sent_after w due d = let h = w (λ e. cc e) in exactly _ due d (row_due status.RequestsRefused h.0 h.1)
-  came_due status.InputRefused old new sent sent_after w due d = let h = w (λ e. cc e) in exactly _ due d (row_due status.InputRefused h.0 h.1)
-  came_due status.ReadFault old new sent sent_after w due d = let h = w (λ e. cc e) in exactly _ due d (row_due status.ReadFault h.0 h.1)
-  came_due status.TooLong old new sent sent_after w due d = let h = w (λ e. cc e) in exactly _ due d (row_due status.TooLong h.0 h.1)
-  came_due status.TooLarge old new sent sent_after w due d = let h = w (λ e. cc e) in exactly _ due d (row_due status.TooLarge h.0 h.1)
-  came_due status.Memory old new sent sent_after w due d = inr (inl refl)
+-- a read that failed has its status
+pub row_quiet : (s : Seen) (job : Option Job) (came : Status) (text : List ℕ) → came ≢ status.ReadFault → JobEnds (in_call s) job came text → IsQuiet s
+row_quiet s None came text not h = let f = h.2 in f.2
+row_quiet s (Some job) came text not h = quiet_ends s (files_of job) (Doing job) came text not h
+
+-- no row has the status of a failed write
+pub row_written : (s : Seen) (job : Option Job) (text : List ℕ) → JobEnds (in_call s) job status.WriteFault text → ⊥
+row_written s None text h = let k = h.0 in cc k
+row_written s (Some job) text h = h

@@ -7,7 +7,7 @@ use Rattle.std.proofs.lemmas.List.{length-replicate}
 use Rattle.std.proofs.lemmas.List.Elements.{recursion_from_All}
 use Rattle.dt_bits.specs.Memory.{IsMemory}
 use Rattle.dt_model.specs.declared.model.Named.{Named}
-use Rattle.dt_model.specs.Data.{Data}
+use Rattle.dt_model.specs.ModelData.{ModelData}
 use Rattle.dt_model.specs.Faults.{IsAccepted}
 use Rattle.dt_model.specs.Values.{FitNames}
 use Rattle.dt_model.proofs.Accepting.{accepted_bytes, accepted_address}
@@ -27,17 +27,17 @@ all_same : {A : Type 0} (P : A → Type 0) (n : ℕ) (x : A) → P x → AllByRe
 all_same P zero x p = tt
 all_same P (suc n) x p = (p, all_same P n x p)
 
-abbrev zero_access : Data → AccessWish → ImageAccess
+abbrev zero_access : ModelData → AccessWish → ImageAccess
 zero_access d w = record { context = w.context; inputs = zeros (length d.inputs) }
 
-fit_accesses : (d : Data) (count : ℕ) (ws : List AccessWish) → AllByRecursion (IsWish d count) ws
+fit_accesses : (d : ModelData) (count : ℕ) (ws : List AccessWish) → AllByRecursion (IsWish d count) ws
     → AllByRecursion (λ (a : ImageAccess). (a.context < count) × FitNames d.inputs a.inputs) (map (zero_access d) ws)
 fit_accesses d count [] h = tt
 fit_accesses d count (w ∷ ws) h = ((h.0.context, fit_zeros d.inputs), fit_accesses d count ws h.1)
 
 -- ---- the image
 
-pub zero_memory : (d : Data) (r : Requests) → IsAccepted d → IsList d r → IsMemory (zero_image d r).memory
+pub zero_memory : (d : ModelData) (r : Requests) → IsAccepted d → IsList d r → IsMemory (zero_image d r).memory
 zero_memory d r a l =
     let top : 2 ^ d.address ≤ 2 ^ 64 = pow-le-pow_right (lit< tt) (accepted_address d a).1 in
     record {
@@ -51,7 +51,7 @@ zero_memory d r a l =
       fit = tt;
     }
 
-pub zero_is_image : (d : Data) (r : Requests) → IsAccepted d → IsList d r → IsImage d (zero_image d r)
+pub zero_is_image : (d : ModelData) (r : Requests) → IsAccepted d → IsList d r → IsImage d (zero_image d r)
 zero_is_image d r a l =
     let count : length (zero_image d r).contexts ≡ length r.contexts = length-replicate (length r.contexts) (zeros (length d.regs)) in
     record {
@@ -62,11 +62,11 @@ zero_is_image d r a l =
           (fit_accesses d (length r.contexts) r.accesses (recursion_from_All _ _ l.accesses));
     }
 
-same_contexts : (d : Data) (ws : List AccessWish) → map (λ (x : ImageAccess). x.context) (map (zero_access d) ws) ≡ map (λ (w : AccessWish). w.context) ws
+same_contexts : (d : ModelData) (ws : List AccessWish) → map (λ (x : ImageAccess). x.context) (map (zero_access d) ws) ≡ map (λ (w : AccessWish). w.context) ws
 same_contexts d [] = refl
 same_contexts d (w ∷ ws) = ap (λ l. w.context ∷ l) (same_contexts d ws)
 
-pub zero_matches : (d : Data) (r : Requests) → Matches r (zero_image d r)
+pub zero_matches : (d : ModelData) (r : Requests) → Matches r (zero_image d r)
 zero_matches d r = record {
   lo = refl;
   hi = refl;

@@ -1,112 +1,109 @@
--- What each status says, and the text that goes with it.
-use Rattle.std.specs.Prelude.{ℕ, ◌≡◌, ◌+◌, ◌<◌, ◌≤◌, ◌⊎◌, List, [], length, Option, Some, None, codes}
-use Rattle.dt_edge.specs.Causes.{Rose, RoseBy}
-use Rattle.dt_edge.specs.Told.{Told, Has, IsAbsent, IsLong, after, with_pieces, AppendsPart}
-use Rattle.dt_model.specs.Data.{Data}
-use Rattle.dt_request.specs.declared.list.Requests.{Requests}
-use Rattle.dt_image.specs.declared.image.Image.{Image}
+-- Which status comes with which text: one table, read for a call and for files that are told.
+use Rattle.std.specs.Prelude.{ℕ, ◌≡◌, ◌<◌, ◌⊎◌, List, [], ◌∷◌, ◌++◌, length, Option, Some, None, codes}
+use Rattle.dt_edge.specs.Told.{IsLong, after, with_pieces, AppendsPart}
 use Rattle.dt_top.specs.Pieces.{pieces_of}
-use Rattle.dt_modeltext.specs.Reading.{IsModelText}
-use Rattle.dt_top.specs.Solved.{IsRefusedModel, IsRequests, IsNoRequests, IsImageText, IsRecordText}
-use Rattle.dt_top.specs.Replayed.{IsMatching, IsSatisfiedText, IsBrokenText, IsRefusedText}
-use Rattle.dt_top.specs.Words.{Task, solve, replay, Job, form_of}
+use Rattle.dt_top.specs.Course.{FileRead, Outcome, answers, needs}
+use Rattle.dt_top.specs.Files.{limit_of}
+use Rattle.dt_top.specs.Lines.{read_fault_line, too_long_line}
+use Rattle.dt_top.specs.Seen.{Seen, IsQuiet, IsUnread, IsTooLong, HasAll, names_of, AsksThese, AsksFirst}
+use Rattle.dt_top.specs.commands.Jobs.{Job, job_of, files_of, Doing}
+use Rattle.dt_top.specs.declared.file.File.{File}
 use Rattle.dt_top.specs.declared.status.Status.{Status}
 use Rattle.dt_top.specs.declared.status.Status.TheVariants as status
 
--- the most bytes of a file
-abbrev pub limit : ℕ
-limit = 16777216
-
--- what a call saw of its shelf: the files that it tells, and its counts before and after
-pub record Seen : Type 0 where
-  pub told : Told
-  pub faults : ℕ
-  pub faults_after : ℕ
-  pub taken : ℕ
-  pub taken_after : ℕ
-
-abbrev pub seen : {S : Type 0} → (S → Told) → (S → ℕ) → (S → ℕ) → S → S → Seen
-seen told faults taken old new =
-    record { told = told old; faults = faults old; faults_after = faults new; taken = taken old; taken_after = taken new }
-
--- a read failed in this call, or the shelf tells its files and has no such name
-abbrev pub IsUnread : Seen → List ℕ → Type 0
-IsUnread s name = Rose s.faults s.faults_after ⊎ IsAbsent s.told name
-
--- more bytes than the limit were taken in this call, and where the shelf tells its files, the name has more
-abbrev pub IsTooLong : Seen → List ℕ → Type 0
-IsTooLong s name = IsLong s.told name limit × RoseBy (limit + 1) s.taken s.taken_after
-
--- the file was read, and this holds of its bytes
-abbrev pub OnBytes : Seen → List ℕ → (List ℕ → Type 0) → Type 0
-OnBytes s name P = (bytes : List ℕ) × Has s.told name bytes × (length bytes ≤ limit) × P bytes
-
--- the words have their form, and this holds of the job
-abbrev pub OnJob : List (List ℕ) → (Job → Type 0) → Type 0
-OnJob words P = (job : Job) × (form_of words ≡ Some job) × P job
-
--- the model was read and accepted too, and this holds of the job and the model
-abbrev pub OnModel : Seen → List (List ℕ) → (Job → Data → Type 0) → Type 0
-OnModel s words P = OnJob words (λ job. OnBytes s job.model (λ bytes. (d : Data) × IsModelText bytes d × P job d))
-
--- the list was read too, and this holds of the job, the model and the list
-abbrev pub OnList : Seen → List (List ℕ) → (Job → Data → Requests → Type 0) → Type 0
-OnList s words P = OnModel s words (λ job d. OnBytes s job.requests (λ bytes. (list : Requests) × IsRequests d bytes list × P job d list))
-
--- ---- the rows of each command, for an accepted model and a list
-
--- `solve` without splits tries the image of zeros
-abbrev pub SolveRow : Data → Requests → Status → List ℕ → Type 0
-SolveRow d list status.Good text = IsImageText d list text
-SolveRow d list status.Spent text = IsRecordText d list text
-SolveRow d list status.Memory text = text ≡ []
-SolveRow d list _ text = ⊥
-
--- an image that matches the list was read from the file of this name, and this holds of it
-abbrev pub OnImage : Seen → List ℕ → Data → Requests → (Image → Type 0) → Type 0
-OnImage s name d list P = OnBytes s name (λ bytes. (i : Image) × IsMatching d list bytes i × P i)
-
--- `replay` judges the image in the file of this name
-abbrev pub ReplayRow : Seen → List ℕ → Data → Requests → Status → List ℕ → Type 0
-ReplayRow s name d list status.Good text = OnImage s name d list (λ i. IsSatisfiedText d list i text)
-ReplayRow s name d list status.No text = OnImage s name d list (λ i. IsBrokenText d list i text)
-ReplayRow s name d list status.InputRefused text = OnBytes s name (λ bytes. IsRefusedText d list bytes text)
-ReplayRow s name d list status.ReadFault text = IsUnread s name × (text ≡ codes "read fault image\n")
-ReplayRow s name d list status.TooLong text = IsTooLong s name × (text ≡ codes "too long image\n")
-ReplayRow s name d list status.Memory text = text ≡ []
-ReplayRow s name d list _ text = ⊥
-
-abbrev pub TaskRow : Seen → Task → Data → Requests → Status → List ℕ → Type 0
-TaskRow s (solve seed) = SolveRow
-TaskRow s (replay name) = ReplayRow s name
-
--- the model and the list were read, and the command has this row
-abbrev pub OnTask : Seen → List (List ℕ) → Status → List ℕ → Type 0
-OnTask s words status text = OnList s words (λ job d list. TaskRow s job.task d list status text)
-
 -- ---- the table
 
--- A status comes with a text only where its row says so.
+-- what is known of the reads that a course makes
+pub record Outside : Type 1 where
+  -- these files were read and no others, and no read failed
+  pub gave : List FileRead → Type 0
+  -- after these files the one of this name couldn't be read
+  pub failed : List FileRead → List ℕ → Type 0
+  -- after these files the one of this name was too long
+  pub long : List FileRead → File → List ℕ → Type 0
+  -- memory may have run out
+  pub wanted : Type 0
+
+-- A course comes to this status and this text: the next file couldn't be read or was too long, memory ran out, or the files that were read have this answer.
+abbrev pub Ends : Outside → (List FileRead → Outcome → Type 0) → Status → List ℕ → Type 0
+Ends o course status.ReadFault text =
+    (files : List FileRead) × (file : File) × (name : List ℕ) × course files (needs file name) × o.failed files name × (text ≡ read_fault_line file)
+Ends o course status.TooLong text =
+    (files : List FileRead) × (file : File) × (name : List ℕ) × course files (needs file name) × o.long files file name × (text ≡ too_long_line file)
+Ends o course status.Memory text = o.wanted × (text ≡ [])
+Ends o course status.Words text = ⊥
+Ends o course status.WriteFault text = ⊥
+Ends o course status.Good text = (files : List FileRead) × course files (answers status.Good text) × o.gave files
+Ends o course status.No text = (files : List FileRead) × course files (answers status.No text) × o.gave files
+Ends o course status.Spent text = (files : List FileRead) × course files (answers status.Spent text) × o.gave files
+Ends o course status.ModelRefused text = (files : List FileRead) × course files (answers status.ModelRefused text) × o.gave files
+Ends o course status.RequestsRefused text = (files : List FileRead) × course files (answers status.RequestsRefused text) × o.gave files
+Ends o course status.InputRefused text = (files : List FileRead) × course files (answers status.InputRefused text) × o.gave files
+Ends o course status.TooLarge text = (files : List FileRead) × course files (answers status.TooLarge text) × o.gave files
+
+-- Words without a form have the status Words, before any file is read; else the job decides.
+abbrev pub JobEnds : (List (List ℕ) → Outside) → Option Job → Status → List ℕ → Type 0
+JobEnds o None came text = (came ≡ status.Words) × (text ≡ codes "refused words\n") × (o []).gave []
+JobEnds o (Some job) came text = Ends (o (files_of job)) (Doing job) came text
+
+-- ---- the table of a call
+
+-- the reads of a call that reads the first of these names
+abbrev pub in_call : Seen → List (List ℕ) → Outside
+in_call s names = record {
+  gave = λ files. HasAll s.told files × AsksThese s (names_of files) × IsQuiet s;
+  failed = λ files name. HasAll s.told files × AsksThese s (names_of files ++ name ∷ []) × IsUnread s name;
+  long = λ files file name. HasAll s.told files × AsksThese s (names_of files ++ name ∷ []) × IsTooLong s file name × IsQuiet s;
+  wanted = AsksFirst s names × IsQuiet s;
+}
+
+-- what a call may come to
 abbrev pub Row : Seen → List (List ℕ) → Status → List ℕ → Type 0
-Row s words status.Good text = OnTask s words status.Good text
-Row s words status.No text = OnTask s words status.No text
-Row s words status.Spent text = OnTask s words status.Spent text
-Row s words status.Words text = (form_of words ≡ None) × (text ≡ codes "refused words\n")
-Row s words status.ModelRefused text =
-    OnJob words (λ job. OnBytes s job.model (λ bytes. IsRefusedModel bytes text))
-Row s words status.RequestsRefused text =
-    OnModel s words (λ job d. OnBytes s job.requests (λ bytes. IsNoRequests d bytes × (text ≡ codes "refused requests\n")))
-Row s words status.InputRefused text = OnTask s words status.InputRefused text
-Row s words status.ReadFault text =
-    OnJob words (λ job. IsUnread s job.model × (text ≡ codes "read fault model\n"))
-    ⊎ (OnModel s words (λ job d. IsUnread s job.requests × (text ≡ codes "read fault requests\n"))
-    ⊎ OnTask s words status.ReadFault text)
-Row s words status.TooLong text =
-    OnJob words (λ job. IsTooLong s job.model × (text ≡ codes "too long model\n"))
-    ⊎ (OnModel s words (λ job d. IsTooLong s job.requests × (text ≡ codes "too long requests\n"))
-    ⊎ OnTask s words status.TooLong text)
-Row s words status.Memory text = OnJob words (λ job. text ≡ [])
-Row s words _ text = ⊥
+Row s words came text = JobEnds (in_call s) (job_of words) came text
+
+-- ---- the table of files
+
+-- the files by their names
+abbrev pub Files : Type 0
+Files = List ℕ → Option (List ℕ)
+
+-- the reads of files that are told, where none fails
+abbrev pub in_files : Type 0 → Files → Outside
+in_files wanted files = record {
+  gave = λ given. HasAll (Some files) given;
+  failed = λ given name. HasAll (Some files) given × (files name ≡ None);
+  long = λ given file name. HasAll (Some files) given × IsLong (Some files) name (limit_of file);
+  wanted = wanted;
+}
+
+-- what words and files come to, where memory is found
+abbrev pub Expected : List (List ℕ) → Files → Status → List ℕ → Type 0
+Expected words files came text = JobEnds (λ names. in_files ⊥ files) (job_of words) came text
+
+-- ---- the table of a call over bytes
+
+-- no file is read
+abbrev pub no_reads : Outside
+no_reads = record {
+  gave = λ files. files ≡ [];
+  failed = λ files name. ⊥;
+  long = λ files file name. ⊥;
+  wanted = Unit {0};
+}
+
+-- what a call over bytes comes to: what its course answers, unless memory ran out
+abbrev pub Replies : (List FileRead → Outcome → Type 0) → Status → List ℕ → Type 0
+Replies course came text = Ends no_reads course came text
+
+-- ---- what is written
+
+-- one of the two that yield to nothing
+abbrev pub IsMemoryOrWriteFault : Status → Type 0
+IsMemoryOrWriteFault came = (came ≡ status.Memory) ⊎ (came ≡ status.WriteFault)
+
+-- this status came and this text was written, unless memory ran out or a write failed
+abbrev pub Comes : Status → List ℕ → Status → Option (List ℕ) → Option (List ℕ) → Type 0
+Comes due want came old new = ((came ≡ due) × (new ≡ after old want)) ⊎ IsMemoryOrWriteFault came
 
 -- A text that the row allows was appended whole, in pieces.
 abbrev pub Writes : (List ℕ → Type 0) → Option (List ℕ) → Option (List ℕ) → Option (List (List ℕ)) → Option (List (List ℕ)) → Type 0

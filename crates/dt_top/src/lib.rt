@@ -1,36 +1,42 @@
 //! All that the program does, over any shelf and sink: it reads the files that its words name, and
 //! answers with one text and one status. `solve` tries the image of zeros for a list; `replay` judges
-//! the image in a file.
+//! the image in a file. A command is a module of `commands`, with its definition in `specs/commands`:
+//! its words, its files in order, and how it goes.
 //!
-//! Proved: `run` gives each status only with the text and the causes of its row in the table
-//! (`specs/Table.antt`), writes that text whole and in pieces of 4096 bytes, and where the shelf
-//! tells its files and no read fails, gives exactly the status that words and files have
-//! (`specs/Due.antt`), unless no memory was found or a write failed. So `replay` says `satisfies`
-//! exactly where the image meets the list, and else names the first claim that doesn't hold; a
-//! model's text is refused exactly where it is none of an accepted model, by its first bad line or
-//! the line that the check refuses, with the cause; an image's text exactly where it has a bad
-//! line, by the first of its causes, or where the image doesn't match the list. `run_in_memory`
-//! adds that over files in memory with no failing call no fault comes of its own.
+//! Proved: what words and the bytes of files come to is one relation (`specs/commands`), and `run`
+//! gives a status and a text only where that relation gives them for the words and the bytes that its
+//! reads gave, in the order of the words, over real files too. It writes the text whole, in pieces of
+//! 4096 bytes. A status other than that of a failed read or write comes only where none failed. Where
+//! the shelf tells its files and no read fails, status and text are exactly the ones that words and
+//! files have, unless memory ran out or a write failed. So `replay` says `satisfies` exactly where
+//! the image meets the list, and else names the first claim that doesn't hold; a refused model or
+//! image is named by its first bad line, or the line that the check refuses, and the cause. The calls
+//! over bytes (`Job::parse`, `accepted_model`, `request_list`, `solve_reply`, `image_reply`) are exact for
+//! all bytes. `run_in_memory` adds that over files in memory with no failing call no fault comes of
+//! its own.
 //!
 //! Only tested: that memory is found where there is enough.
 #![tactic(auto)]
 
-mod answer;
+mod commands;
+mod file;
 mod in_memory;
 mod pieces;
 mod program;
 mod reading;
 mod record;
-mod refusal;
-mod replaying;
 mod reply;
-mod solving;
+mod stages;
 mod status;
 mod words;
 mod zeros;
 
+pub use commands::{Job, ReplayJob, SolveJob, image_reply, solve_reply};
+pub use file::File;
 pub use in_memory::run_in_memory;
 pub use program::run;
+pub use reply::{Reply, Text};
+pub use stages::{accepted_model, matching_image, request_list};
 pub use status::Status;
 
 #[cfg(test)]

@@ -1,26 +1,22 @@
-// The files and their readers, with their faults as refusals of the program.
-ghost use Rattle.std.specs.Prelude.{◌≡◌, ◌≤◌, length, IfOk, IfErr, MatchResult};
-ghost use Rattle.dt_edge.specs.Told.{Has};
+// The files that a command reads, one after another.
+ghost use Rattle.std.specs.Prelude.{◌≡◌, ◌≤◌, ◌∷◌, [], ℕ, List, length, IfOk, IfErr};
 ghost use Rattle.dt_model.specs.Accepted.{accepted_data};
-ghost use Rattle.dt_modeltext.specs.Reading.{IsModelText};
 ghost use Rattle.dt_request.specs.Lists.{IsList, AsksEndsAlone};
-ghost use Rattle.dt_image.specs.Images.{IsImage};
-ghost use Rattle.dt_top.specs.Refusals.{Unread, RefusesModel, RefusesRequests, RefusesImage, model_refusal, image_refusal};
-ghost use Rattle.dt_top.specs.Replayed.{IsMatching};
-ghost use Rattle.dt_top.specs.Solved.{IsRequests};
-ghost use Rattle.dt_top.specs.Table.{seen, limit};
+ghost use Rattle.dt_modeltext.specs.Read.{IsModelText};
+ghost use Rattle.dt_top.specs.Course.{Never, OnFile};
+ghost use Rattle.dt_top.specs.Replies.{bytes_of};
+ghost use Rattle.dt_top.specs.Seen.{seen, StaysShelf, Took, TookBoth};
+ghost use Rattle.dt_top.specs.Stages.{OnModel, IsRequests, OnRequests, OnModelAndList};
+ghost use Rattle.dt_top.specs.Table.{in_call, Ends};
 
-use crate::refusal::{Cause, File, Refusal};
+use crate::file::File;
+use crate::reply::Reply;
+use crate::stages::{accepted_model, request_list};
+use crate::status::Status;
 use dt_edge::{Shelf, ShelfFault};
-use dt_image::{Image, ImageFault, read_image};
-use dt_lex::LexFault;
 use dt_model::Accepted;
-use dt_modeltext::{ModelFault, read_model};
-use dt_request::{RequestFault, Requests, read_requests};
-use dt_satisfy::matches;
+use dt_request::Requests;
 use std::alloc::Global;
-
-const FILE_LIMIT: u64 = 16_777_216;
 
 /// The bytes of a file that the words name.
 pub fn read<S: Shelf>(
@@ -28,118 +24,86 @@ pub fn read<S: Shelf>(
     shelf: &mut S,
     file: File,
     name: &str,
-) -> Result<Vec<u8>, Refusal>
-    ensures told { S.told shelf.new ≡ S.told shelf.old }
-    ensures faults { S.faults shelf.old ≤ S.faults shelf.new }
-    ensures taken { S.taken shelf.old ≤ S.taken shelf.new }
-    ensures steady { S.steady shelf.old → S.steady shelf.new }
-    ensures unfailing { S.steady shelf.old → S.faults shelf.new ≡ S.faults shelf.old }
-    ensures within { IfOk result (λ bytes. length bytes.items ≤ limit) }
-    ensures bytes { IfOk result (λ bytes. Has (S.told shelf.old) name.now bytes.items) }
-    ensures unread { IfErr result (Unread (seen S.told S.faults S.taken shelf.old shelf.new) file name.now) }
+) -> Result<Vec<u8>, Reply>
+    ensures shelf { StaysShelf S.told S.faults S.taken S.steady shelf.old shelf.new }
+    ensures took { IfOk result (λ bytes.
+        Took (seen S.told S.faults S.taken S.asked shelf.old shelf.new) file name.now bytes.items) }
+    ensures unread { IfErr result (λ reply.
+        Ends (in_call (seen S.told S.faults S.taken S.asked shelf.old shelf.new) (name.now ∷ []))
+        (OnFile file name.now (λ bytes. Never)) reply.status (bytes_of reply.text)) }
 {
-    match shelf.read_all(alloc, name, FILE_LIMIT) {
+    match shelf.read_all(alloc, name, file.limit()) {
         Ok(bytes) => Ok(bytes),
-        Err(ShelfFault::Failed) => Err(Refusal::ReadFault(file)),
-        Err(ShelfFault::TooLong) => Err(Refusal::TooLong(file)),
-        Err(ShelfFault::Memory) => Err(Refusal::Memory),
+        Err(ShelfFault::Failed) => Err(Reply::line(Status::ReadFault, file.read_fault_line())),
+        Err(ShelfFault::TooLong) => Err(Reply::line(Status::TooLong, file.too_long_line())),
+        Err(ShelfFault::Memory) => Err(Reply::no_memory()),
     }
 }
 
-fn bad_model(line: u32, cause: Cause) -> Refusal
-    ensures { result ≡ Refusal.BadLine File.Model line cause }
+/// The accepted model in the file of this name.
+pub fn model_file<S: Shelf>(alloc: Global, shelf: &mut S, name: &str) -> Result<Accepted, Reply>
+    ensures shelf { StaysShelf S.told S.faults S.taken S.steady shelf.old shelf.new }
+    ensures model { IfOk result (λ model. (bytes : List ℕ)
+        × Took (seen S.told S.faults S.taken S.asked shelf.old shelf.new) File.Model name.now bytes
+        × IsModelText bytes (accepted_data model)) }
+    ensures refused { IfErr result (λ reply.
+        Ends (in_call (seen S.told S.faults S.taken S.asked shelf.old shelf.new) (name.now ∷ []))
+        (OnFile File.Model name.now (λ bytes. OnModel bytes (λ d. Never)))
+        reply.status (bytes_of reply.text)) }
 {
-    Refusal::BadLine {
-        file: File::Model,
-        line,
-        cause,
-    }
+    let bytes = read(alloc, shelf, File::Model, name)?;
+    accepted_model(alloc, bytes.as_slice())
 }
 
-fn model_refusal(fault: ModelFault) -> Refusal
-    ensures { result ≡ model_refusal fault }
-{
-    match fault {
-        ModelFault::Memory => Refusal::Memory,
-        ModelFault::Lex(LexFault::Memory) => Refusal::Memory,
-        ModelFault::Lex(LexFault::LineTooLong(line)) => bad_model(line, Cause::Long),
-        ModelFault::Lex(LexFault::BadByte(line)) => bad_model(line, Cause::Byte),
-        ModelFault::Form(line) => bad_model(line, Cause::Form),
-        ModelFault::Refused { refusal, line } => bad_model(line, Cause::Refused(refusal)),
-    }
-}
-
-/// The accepted model that a text spells.
-#[tactic(auto, using(crate::proofs::Rows::model_refused))]
-pub fn accepted_model(alloc: Global, text: &[u8]) -> Result<Accepted, Refusal>
-    requires { length text.now ≤ limit }
-    ensures { MatchResult result (λ model. IsModelText text.now (accepted_data model)) (RefusesModel text.now) }
-{
-    match read_model(alloc, text) {
-        Ok(model) => Ok(model),
-        Err(fault) => Err(model_refusal(fault)),
-    }
-}
-
-/// The list for a model that a text spells.
-pub fn request_list(alloc: Global, model: &Accepted, text: &[u8]) -> Result<Requests, Refusal>
-    requires { length text.now ≤ limit }
-    ensures text { MatchResult result (λ list. IsRequests (accepted_data model.now) text.now list)
-        (RefusesRequests (accepted_data model.now) text.now) }
+/// The list for a model in the file of this name.
+pub fn list_file<S: Shelf>(
+    alloc: Global,
+    shelf: &mut S,
+    model: &Accepted,
+    name: &str,
+) -> Result<Requests, Reply>
+    ensures shelf { StaysShelf S.told S.faults S.taken S.steady shelf.old shelf.new }
+    ensures text { IfOk result (λ list. (bytes : List ℕ)
+        × Took (seen S.told S.faults S.taken S.asked shelf.old shelf.new) File.Requests name.now bytes
+        × IsRequests (accepted_data model.now) bytes list) }
     ensures list { IfOk result (IsList (accepted_data model.now)) }
     ensures ends { IfOk result AsksEndsAlone }
+    ensures refused { IfErr result (λ reply.
+        Ends (in_call (seen S.told S.faults S.taken S.asked shelf.old shelf.new) (name.now ∷ []))
+        (OnFile File.Requests name.now
+        (λ bytes. OnRequests (accepted_data model.now) bytes (λ list. Never)))
+        reply.status (bytes_of reply.text)) }
 {
-    match read_requests(alloc, model, text) {
-        Ok(list) => Ok(list),
-        Err(RequestFault::Memory) => Err(Refusal::Memory),
-        Err(_) => Err(Refusal::Requests),
-    }
+    let bytes = read(alloc, shelf, File::Requests, name)?;
+    request_list(alloc, model, bytes.as_slice())
 }
 
-fn bad_image(line: u32, cause: Cause) -> Refusal
-    ensures { result ≡ Refusal.BadLine File.Image line cause }
-{
-    Refusal::BadLine {
-        file: File::Image,
-        line,
-        cause,
-    }
+/// A model, and a list for it.
+#[derive(Debug, Drop)]
+pub struct Question {
+    pub model: Accepted,
+    pub list: Requests,
 }
 
-fn image_refusal(fault: ImageFault) -> Refusal
-    ensures { result ≡ image_refusal fault }
-{
-    match fault {
-        ImageFault::Memory => Refusal::Memory,
-        ImageFault::Lex(LexFault::Memory) => Refusal::Memory,
-        ImageFault::Lex(LexFault::LineTooLong(line)) => bad_image(line, Cause::Long),
-        ImageFault::Lex(LexFault::BadByte(line)) => bad_image(line, Cause::Byte),
-        ImageFault::Form(line) => bad_image(line, Cause::Form),
-        ImageFault::Shape(line) => bad_image(line, Cause::Shape),
-        ImageFault::OutOfRange(line) => bad_image(line, Cause::OutOfRange),
-        ImageFault::Order(line) => bad_image(line, Cause::Order),
-    }
-}
-
-/// The image for a model and a list that a text spells, where it matches the list.
-pub fn matching_image(
+/// The model and the list in the files of these names, of which many commands begin.
+pub fn model_and_list<S: Shelf>(
     alloc: Global,
-    model: &Accepted,
-    list: &Requests,
-    text: &[u8],
-) -> Result<Image, Refusal>
-    requires { length text.now ≤ limit }
-    ensures text { MatchResult result (IsMatching (accepted_data model.now) list.now text.now)
-        (RefusesImage (accepted_data model.now) list.now text.now) }
-    ensures image { IfOk result (IsImage (accepted_data model.now)) }
+    shelf: &mut S,
+    model: &str,
+    requests: &str,
+) -> Result<Question, Reply>
+    ensures shelf { StaysShelf S.told S.faults S.taken S.steady shelf.old shelf.new }
+    ensures both { IfOk result (λ question.
+        TookBoth (seen S.told S.faults S.taken S.asked shelf.old shelf.new) model.now requests.now
+        (accepted_data question.model) question.list) }
+    ensures list { IfOk result (λ question. IsList (accepted_data question.model) question.list) }
+    ensures ends { IfOk result (λ question. AsksEndsAlone question.list) }
+    ensures refused { IfErr result (λ reply.
+        Ends (in_call (seen S.told S.faults S.taken S.asked shelf.old shelf.new)
+        (model.now ∷ requests.now ∷ []))
+        (OnModelAndList model.now requests.now (λ d list. Never)) reply.status (bytes_of reply.text)) }
 {
-    match read_image(alloc, model, text) {
-        Ok(image) => {
-            if !matches(model, list, &image) {
-                return Err(Refusal::Mismatch);
-            }
-            Ok(image)
-        }
-        Err(fault) => Err(image_refusal(fault)),
-    }
+    let model = model_file(alloc, shelf, model)?;
+    let list = list_file(alloc, shelf, &model, requests)?;
+    Ok(Question { model, list })
 }

@@ -1,72 +1,99 @@
-// What a run comes to, before anything is written.
-ghost use Rattle.std.specs.Prelude.{◌≡◌, ◌≤◌, length, map, MatchResult};
-ghost use Rattle.std.specs.String.{string_bytes};
-ghost use Rattle.dt_model.specs.Accepted.{accepted_data};
-ghost use Rattle.dt_request.specs.Lists.{IsList, AsksEndsAlone};
-ghost use Rattle.dt_top.specs.Asked.{task_of};
-ghost use Rattle.dt_top.specs.Table.{seen, Row, TaskRow};
-ghost use Rattle.dt_top.specs.Refusals.{status_of, line_of, status_found};
+// What is printed, with its status.
+ghost use Rattle.std.specs.Prelude.{◌≡◌, IfOk};
+ghost use Rattle.dt_top.specs.Files.{file_word};
+ghost use Rattle.dt_top.specs.Lines.{bad_line};
+ghost use Rattle.dt_top.specs.Replies.{bytes_of, IsWant, IsRefusedLine};
 
-use crate::answer::Answer;
-use crate::reading::{accepted_model, read, request_list};
-use crate::refusal::{File, Refusal};
-use crate::replaying::replay;
-use crate::solving::solve;
-use crate::words::{Task, form};
-use dt_edge::Shelf;
-use dt_model::Accepted;
-use dt_request::Requests;
+use crate::file::File;
+use crate::status::Status;
+use dt_bits::NoMemory;
+use dt_lex::push_decimal;
 use std::alloc::Global;
 
-// What is asked of the model and the list.
-fn perform_task<S: Shelf>(
-    alloc: Global,
-    shelf: &mut S,
-    model: &Accepted,
-    list: &Requests,
-    task: Task<'_>,
-) -> Result<Answer, Refusal>
-    requires list { IsList (accepted_data model.now) list.now }
-    requires ends { AsksEndsAlone list.now }
-    ensures told { S.told shelf.new ≡ S.told shelf.old }
-    ensures faults { S.faults shelf.old ≤ S.faults shelf.new }
-    ensures taken { S.taken shelf.old ≤ S.taken shelf.new }
-    ensures steady { S.steady shelf.old → S.steady shelf.new }
-    ensures unfailing { S.steady shelf.old → S.faults shelf.new ≡ S.faults shelf.old }
-    ensures row { MatchResult result
-        (λ answer. TaskRow (seen S.told S.faults S.taken shelf.old shelf.new) (task_of task.entry)
-        (accepted_data model.now) list.now (status_found answer.verdict) answer.text.items)
-        (λ refusal. TaskRow (seen S.told S.faults S.taken shelf.old shelf.new) (task_of task.entry)
-        (accepted_data model.now) list.now (status_of refusal) (line_of refusal)) }
-{
-    match task {
-        Task::Solve { .. } => match solve(alloc, model, list) {
-            Ok(answer) => Ok(answer),
-            Err(_) => Err(Refusal::Memory),
-        },
-        Task::Replay { image } => replay(alloc, shelf, model, list, image),
+/// A text to print.
+#[derive(Debug, Drop)]
+pub enum Text {
+    /// One that is always the same, and takes no memory.
+    Line(&'static str),
+    /// One that was made.
+    Made(Vec<u8>),
+}
+
+impl Text {
+    /// Its bytes.
+    pub fn as_bytes(&self) -> &[u8]
+        ensures { result.now ≡ bytes_of self.now }
+    {
+        match self {
+            Text::Line(text) => text.as_bytes(),
+            Text::Made(text) => text.as_slice(),
+        }
     }
 }
 
-/// The answer, or the first refusal.
-pub fn reply<S: Shelf>(alloc: Global, words: &[String], shelf: &mut S) -> Result<Answer, Refusal>
-    ensures told { S.told shelf.new ≡ S.told shelf.old }
-    ensures faults { S.faults shelf.old ≤ S.faults shelf.new }
-    ensures taken { S.taken shelf.old ≤ S.taken shelf.new }
-    ensures steady { S.steady shelf.old → S.steady shelf.new }
-    ensures unfailing { S.steady shelf.old → S.faults shelf.new ≡ S.faults shelf.old }
-    ensures row { MatchResult result
-        (λ answer. Row (seen S.told S.faults S.taken shelf.old shelf.new) (map string_bytes words.now)
-        (status_found answer.verdict) answer.text.items)
-        (λ refusal. Row (seen S.told S.faults S.taken shelf.old shelf.new) (map string_bytes words.now)
-        (status_of refusal) (line_of refusal)) }
+/// What a command says: a status, and the text that is printed with it. It is an answer, or the
+/// refusal of what it was given, or, with no text, that memory ran out.
+#[derive(Debug, Drop)]
+pub struct Reply {
+    pub status: Status,
+    pub text: Text,
+}
+
+impl Reply {
+    /// A line that is always the same.
+    pub fn line(status: Status, text: &'static str) -> Reply
+        ensures status { result.status ≡ status }
+        ensures text { bytes_of result.text ≡ text.now }
+    {
+        Reply {
+            status,
+            text: Text::Line(text),
+        }
+    }
+
+    /// A text that was made.
+    pub fn made(status: Status, text: Vec<u8>) -> Reply
+        ensures status { result.status ≡ status }
+        ensures text { bytes_of result.text ≡ text.items }
+    {
+        Reply {
+            status,
+            text: Text::Made(text),
+        }
+    }
+
+    /// Memory ran out.
+    pub fn no_memory() -> Reply
+        ensures { IsWant result }
+    {
+        Reply::line(Status::Memory, "")
+    }
+
+    /// The refusal of a file's text, by its first bad line and the word of the cause; without a line
+    /// memory ran out.
+    pub fn refused(alloc: Global, file: File, line: Option<u32>, cause: &str) -> Reply
+        ensures { IsRefusedLine file line cause.now result }
+    {
+        let Some(line) = line else {
+            return Reply::no_memory();
+        };
+        match bad_line(alloc, file, line, cause) {
+            Ok(text) => Reply::made(file.refused_status(), text),
+            Err(_) => Reply::no_memory(),
+        }
+    }
+}
+
+// The line that names a file's first bad line.
+fn bad_line(alloc: Global, file: File, line: u32, cause: &str) -> Result<Vec<u8>, NoMemory>
+    ensures { IfOk result (λ text. text.items ≡ bad_line (file_word file) line cause.now) }
 {
-    let Some(job) = form(words) else {
-        return Err(Refusal::Words);
-    };
-    let text = read(alloc, shelf, File::Model, job.model)?;
-    let model = accepted_model(alloc, text.as_slice())?;
-    let list_text = read(alloc, shelf, File::Requests, job.requests)?;
-    let list = request_list(alloc, &model, list_text.as_slice())?;
-    perform_task(alloc, shelf, &model, &list, job.task)
+    let mut out = Vec::from_slice(alloc, b"refused ")?;
+    out.extend_from_slice(file.word().as_bytes())?;
+    out.extend_from_slice(b" line ")?;
+    push_decimal(&mut out, u128::from(line))?;
+    out.push(b' ')?;
+    out.extend_from_slice(cause.as_bytes())?;
+    out.push(b'\n')?;
+    Ok(out)
 }

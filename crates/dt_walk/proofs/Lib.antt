@@ -1,6 +1,7 @@
 pub mod Named
 pub mod Walks
 pub mod Sound
-pub mod Lent
+pub mod Views
 pub mod Narrow
 pub mod Rules
+pub mod Edges

@@ -1,5 +1,5 @@
 -- An accepted model's nodes can be walked, and its rules have values.
-use Rattle.std.proofs.Common.{◌≡◌, ℕ, zero, suc, ◌<◌, ◌≤◌, Bool, false, ◌&&◌, ◌||◌, eqb, ltb, leb, List, [], ◌∷◌, Option, Some, None, length, get_or, map, ◌^◌, ⊎_elim, refl, sym, ap, ◌∙◌, subst, arith}
+use Rattle.std.proofs.Common.{◌≡◌, ℕ, zero, suc, ◌<◌, ◌≤◌, Bool, false, ◌&&◌, ◌||◌, eqb, ltb, leb, List, [], ◌∷◌, Option, Some, None, length, get_or, ◌^◌, ⊎_elim, refl, sym, ap, ◌∙◌, subst, arith}
 use Rattle.std.specs.Prelude.{IsSome, IsSomeAnd, is_some, slice_get, slice_index, Contains}
 use Rattle.std.proofs.lemmas.Bool.{false_from_ne_true, or_parts, false≢true, leb-false, lt-ltb, not-false, eqb-true, and_from, cases_lt}
 use Rattle.std.proofs.lemmas.Nat.{pow_pos}
@@ -9,23 +9,19 @@ use Rattle.dt_model.specs.declared.model.Named.{Named}
 use Rattle.dt_model.specs.declared.refusal.ModelRefusal.{ModelRefusal}
 use Rattle.dt_model.specs.declared.refusal.ModelRefusal.TheVariants.{UnknownName, WidthMismatch, WidthRange, BackEdge, NoNode}
 use Rattle.dt_model.specs.declared.refusal.Place.TheVariants.{Node as At}
-use Rattle.dt_model.specs.Data.{Data, Tree, Step, Spot, bind, read, branch, fault, done}
+use Rattle.dt_model.specs.ModelData.{ModelData, Tree, ActData, NodeData, bind, read, branch, fault, done}
 use Rattle.dt_model.specs.Widths.{Scope, AreWidths, tree_width, differs, has_unknown, has_mismatch, has_bad_range, HasArities}
 use Rattle.dt_model.specs.Faults.{IsAccepted, HaveArities, NodeBreaks, context_scope, access_scope, node_scope, on_tree, var_unknown, step_mismatch, step_range, steps, tree_in, any, targets}
 use Rattle.dt_model.specs.Values.{FitNames}
+use Rattle.dt_model.proofs.Nodes.{act_at}
 use Rattle.dt_model.proofs.Fitting.{tree_fits, width_within}
 use Rattle.dt_model.proofs.Accepting.{context_rule_width, access_rule_width, context_arities, access_arities, node_arities}
 use Rattle.dt_walk.specs.Sound.{IsSound, AreSound, IsLater, AreValues}
 
 -- ---- nodes
 
-node_at : (nodes : List Spot) (i : ℕ) (p : Step) → slice_get (map (λ n. n.step) nodes) i ≡ Some p → (n : Spot) × (slice_get nodes i ≡ Some n) × (n.step ≡ p)
-node_at [] i p e = absurd (cc)
-node_at (n ∷ ns) zero p e = let s : n.step ≡ p = cc in (n, refl, s)
-node_at (n ∷ ns) (suc i) p e = node_at ns i p e
-
-fine : (d : Data) (i : ℕ) (n : Spot) → IsAccepted d → slice_get d.nodes i ≡ Some n → (r : ModelRefusal) → NodeBreaks d i n r → ⊥
-fine d i n a e r b = a (At i) r (subst (λ (o : Option Spot). IsSomeAnd o (λ m. NodeBreaks d i m r)) (sym e) b)
+pub fine : (d : ModelData) (i : ℕ) (n : NodeData) → IsAccepted d → slice_get d.nodes i ≡ Some n → (r : ModelRefusal) → NodeBreaks d i n r → ⊥
+fine d i n a e r b = a (At i) r (subst (λ (o : Option NodeData). IsSomeAnd o (λ m. NodeBreaks d i m r)) (sym e) b)
 
 same_width : (a b : Option ℕ) → IsSome a → IsSome b → differs a b ≡ false → a ≡ b
 same_width (Some a) (Some b) p q d = ap (λ (n : ℕ). Some n) (eqb-true a b (not-false (eqb a b) d))
@@ -39,14 +35,14 @@ later count i t b n =
     (leb-false t i l, c)
 
 -- the tests of a node that no fault passes
-record Clean (d : Data) (i : ℕ) (p : Step) : Type 0 where
-  known : (on_tree p (has_unknown (node_scope d)) || var_unknown (length d.vars) p) ≡ false
-  match : (on_tree p (has_mismatch (node_scope d)) || step_mismatch d.word d.address (node_scope d) p) ≡ false
-  range : (on_tree p (has_bad_range (node_scope d)) || step_range d.word d.address p) ≡ false
-  back : any (targets p) (λ t. ltb t (length d.nodes) && leb t i) ≡ false
-  node : any (targets p) (λ t. leb (length d.nodes) t) ≡ false
+pub record Clean (d : ModelData) (i : ℕ) (p : ActData) : Type 0 where
+  pub known : (on_tree p (has_unknown (node_scope d)) || var_unknown (length d.vars) p) ≡ false
+  pub match : (on_tree p (has_mismatch (node_scope d)) || step_mismatch d.word d.address (node_scope d) p) ≡ false
+  pub range : (on_tree p (has_bad_range (node_scope d)) || step_range d.word d.address p) ≡ false
+  pub back : any (targets p) (λ t. ltb t (length d.nodes) && leb t i) ≡ false
+  pub node : any (targets p) (λ t. leb (length d.nodes) t) ≡ false
 
-clean : (d : Data) (i : ℕ) (n : Spot) → IsAccepted d → slice_get d.nodes i ≡ Some n → Clean d i n.step
+pub clean : (d : ModelData) (i : ℕ) (n : NodeData) → IsAccepted d → slice_get d.nodes i ≡ Some n → Clean d i n.step
 clean d i n a e = record {
   known = false_from_ne_true _ (fine d i n a e UnknownName);
   match = false_from_ne_true _ (fine d i n a e WidthMismatch);
@@ -55,7 +51,7 @@ clean d i n a e = record {
   node = false_from_ne_true _ (fine d i n a e NoNode);
 }
 
-tree_ok : (d : Data) (t : Tree) (u m r : Bool) → HasArities t → (has_unknown (node_scope d) t || u) ≡ false → (has_mismatch (node_scope d) t || m) ≡ false → (has_bad_range (node_scope d) t || r) ≡ false → IsSome (tree_width (node_scope d) t)
+tree_ok : (d : ModelData) (t : Tree) (u m r : Bool) → HasArities t → (has_unknown (node_scope d) t || u) ≡ false → (has_mismatch (node_scope d) t || m) ≡ false → (has_bad_range (node_scope d) t || r) ≡ false → IsSome (tree_width (node_scope d) t)
 tree_ok d t u m r h a b c = tree_fits (node_scope d) t h (or_parts _ u a).0 (or_parts _ m b).0 (or_parts _ r c).0
 
 two : (count i t o : ℕ) → any (t ∷ o ∷ []) (λ t. ltb t count && leb t i) ≡ false → any (t ∷ o ∷ []) (λ t. leb count t) ≡ false → IsLater count i t × IsLater count i o
@@ -64,7 +60,7 @@ two count i t o b n =
     let q = or_parts (leb count t) _ n in
     (later count i t p.0 q.0, later count i o (or_parts (ltb o count && leb o i) false p.1).0 (or_parts (leb count o) false q.1).0)
 
-sound : (d : Data) (i : ℕ) (p : Step) → ((t : Tree) → tree_in p ≡ Some t → HasArities t) → Clean d i p → IsSound (node_scope d) d.word (length d.nodes) i p
+sound : (d : ModelData) (i : ℕ) (p : ActData) → ((t : Tree) → tree_in p ≡ Some t → HasArities t) → Clean d i p → IsSound (node_scope d) d.word (length d.nodes) i p
 sound d i (fault c) h k = tt
 sound d i (done t page) h k = (h t refl, tree_ok d t _ _ _ (h t refl) k.known k.match k.range)
 sound d i (branch t to other) h k =
@@ -83,9 +79,9 @@ sound d i (read x t g to other) h k =
     let l = two (length d.nodes) i to other k.back k.node in
     (h t refl, w, same_width _ _ v refl (or_parts (differs (tree_width (node_scope d) t) (Some d.address)) _ m.1).1, l.0, l.1)
 
-pub accepted_sound : (d : Data) → IsAccepted d → HaveArities d → AreSound (node_scope d) d.word (steps d)
+pub accepted_sound : (d : ModelData) → IsAccepted d → HaveArities d → AreSound (node_scope d) d.word (steps d)
 accepted_sound d a h i p e =
-    let n = node_at d.nodes i p e in
+    let n = act_at d.nodes i p e in
     let s = sound d i n.0.step (λ t q. node_arities d i n.0 t h n.1 q) (clean d i n.0 a n.1) in
     let len : length d.nodes ≡ length (steps d) = sym (length-map d.nodes _) in
     subst (λ q. IsSound (node_scope d) d.word (length (steps d)) i q) n.2 (subst (λ l. IsSound (node_scope d) d.word l i n.0.step) len s)
@@ -122,12 +118,12 @@ pub record IsRule (s : Scope) (t : Tree) : Type 0 where
   pub arities : HasArities t
   pub width : IsSome (tree_width s t)
 
-pub context_rule : (d : Data) (t : Tree) → IsAccepted d → HaveArities d → Contains d.legal_context t → IsRule (context_scope d) t
+pub context_rule : (d : ModelData) (t : Tree) → IsAccepted d → HaveArities d → Contains d.legal_context t → IsRule (context_scope d) t
 context_rule d t a h c =
     let e = held_at d.legal_context c.0 t c.1 c.2 in
     record { arities = context_arities d c.0 t h e; width = ap is_some (context_rule_width d c.0 t a h e) }
 
-pub access_rule : (d : Data) (t : Tree) → IsAccepted d → HaveArities d → Contains d.legal_access t → IsRule (access_scope d) t
+pub access_rule : (d : ModelData) (t : Tree) → IsAccepted d → HaveArities d → Contains d.legal_access t → IsRule (access_scope d) t
 access_rule d t a h c =
     let e = held_at d.legal_access c.0 t c.1 c.2 in
     record { arities = access_arities d c.0 t h e; width = ap is_some (access_rule_width d c.0 t a h e) }

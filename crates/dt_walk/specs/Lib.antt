@@ -1,6 +1,9 @@
 pub mod Meaning
 pub mod Walks
 pub mod Walkers
-pub mod Keeps
+pub mod Loan
 pub mod Sound
-pub mod Settings
+pub mod Env
+pub mod Steps
+pub mod Room
+pub mod Edges

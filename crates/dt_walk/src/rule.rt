@@ -1,10 +1,10 @@
 ghost use Rattle.std.specs.Prelude.{◌≡◌, [], Contains};
 ghost use Rattle.dt_model.specs.Accepted.{accepted_data};
-ghost use Rattle.dt_model.specs.Data.{tree_of};
+ghost use Rattle.dt_model.specs.ModelData.{tree_of};
 ghost use Rattle.dt_model.specs.Values.{FitNames};
 ghost use Rattle.dt_walk.specs.Meaning.{rule_holds};
 
-use crate::value::{Lent, value};
+use crate::value::{Env, value};
 use dt_model::{Accepted, Expr, Names};
 
 /// Whether a context rule of the model is 1 under these values of the registers.
@@ -19,12 +19,12 @@ pub fn context_rule_holds(model: &Accepted, rule: &Expr, regs: &[u128]) -> bool
         inputs: &[],
         vars: &[],
     };
-    let lent = Lent {
+    let env = Env {
         names,
         regs,
         inputs: &[],
     };
-    let v = value(rule, &lent, &[]);
+    let v = value(rule, &env, &[]);
     v.bits == 1
 }
 
@@ -41,11 +41,11 @@ pub fn access_rule_holds(model: &Accepted, rule: &Expr, regs: &[u128], inputs: &
         inputs: m.inputs.as_slice(),
         vars: &[],
     };
-    let lent = Lent {
+    let env = Env {
         names,
         regs,
         inputs,
     };
-    let truth = value(rule, &lent, &[]);
+    let truth = value(rule, &env, &[]);
     truth.bits == 1
 }

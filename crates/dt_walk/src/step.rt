@@ -1,13 +1,16 @@
-ghost use Rattle.std.specs.Prelude.{◌≡◌, ◌==◌, if◌then◌else◌, [], ℕ, ◌+◌, ◌*◌, ◌<◌, ◌≤◌, ◌^◌, List, Some, IsSome, slice_index, length, vec_len, vec_capacity};
-ghost use Rattle.dt_model.specs.Data.{step_of};
+ghost use Rattle.std.specs.Prelude.{◌≡◌, if◌then◌else◌, ℕ, ◌+◌, ◌*◌, ◌<◌, ◌^◌, Some, slice_index};
+ghost use Rattle.dt_model.specs.ModelData.{act_of};
 ghost use Rattle.dt_model.specs.Widths.{width_at};
 ghost use Rattle.dt_walk.specs.Meaning.{Vars, bound};
-ghost use Rattle.dt_walk.specs.Walks.{RunData, acted};
+ghost use Rattle.dt_walk.specs.Walks.{RunData, acted, after};
+ghost use Rattle.dt_walk.specs.Walkers.{run_data};
+ghost use Rattle.dt_walk.specs.Room.{HasRoom, IsFilled};
 ghost use Rattle.dt_walk.specs.Sound.{AreValues, IsSound};
-ghost use Rattle.dt_walk.specs.Settings.{setting_of, extended, NextIs, LeadsOn};
+ghost use Rattle.dt_walk.specs.Env.{env_data};
+ghost use Rattle.dt_walk.specs.Steps.{IsNext, LeadsOn};
 
-use crate::value::{Lent, value};
-use crate::{End, ReadMade};
+use crate::value::{Env, value};
+use crate::{End, ReadMade, Run, SideTaken};
 use dt_bits::TableMemory;
 use dt_model::{Act, Named};
 
@@ -28,44 +31,47 @@ fn bind(names: &[Named], vars: &mut [u128], x: u32, bits: u128)
     vars[x as usize] = bits;
 }
 
-fn branch(bits: u128, then_to: u32, other: u32) -> u32
-    ensures { result ≡ (if bits == 1 then then_to else other) }
+fn branch(by_then: bool, then_to: u32, other: u32) -> u32
+    ensures { result ≡ (if by_then then then_to else other) }
 {
-    if bits == 1 { then_to } else { other }
+    if by_then { then_to } else { other }
 }
 
-/// One node's step.
+/// One node's step, which records the node, and its side and its read where it has one.
 pub fn step(
-    lent: &Lent,
+    env: &Env,
     memory: &TableMemory,
     vars: &mut [u128],
-    reads: &mut Vec<ReadMade>,
+    run: &mut Run,
     act: &Act,
     at: u32,
     count: usize,
 ) -> Next
-    requires sound { IsSound (setting_of lent.now).scope (8 * memory.now.bytes) count at (step_of act.now) }
-    requires regs { AreValues lent.now.names.regs.now lent.now.regs.now }
-    requires inputs { AreValues lent.now.names.inputs.now lent.now.inputs.now }
-    requires vars { AreValues lent.now.names.vars.now vars.old }
-    requires room { vec_len reads.old < vec_capacity reads.old }
-    ensures vars { AreValues lent.now.names.vars.now vars.new }
-    ensures reads { vec_len reads.new ≤ vec_len reads.old + 1 }
-    ensures capacity { vec_capacity reads.new ≡ vec_capacity reads.old }
+    requires sound { IsSound (env_data env.now).scope (8 * memory.now.bytes) count at (act_of act.now) }
+    requires regs { AreValues env.now.names.regs.now env.now.regs.now }
+    requires inputs { AreValues env.now.names.inputs.now env.now.inputs.now }
+    requires vars { AreValues env.now.names.vars.now vars.old }
+    requires within { at < count }
+    requires room { HasRoom count run.old }
+    requires filled { IsFilled at run.old }
+    ensures vars { AreValues env.now.names.vars.now vars.new }
+    ensures room { HasRoom count run.new }
+    ensures filled { IsFilled (at + 1) run.new }
     ensures next { LeadsOn count at result }
     ensures value { (go : ℕ → Vars → RunData) →
-        NextIs at go (slice_index vars.new) reads.new.items result
-        (extended [] reads.old.items
-        (acted (setting_of lent.now) memory.now at (step_of act.now) go (slice_index vars.old))) }
+        IsNext go (slice_index vars.new) (run_data run.new) result
+        (after (run_data run.old)
+        (acted (env_data env.now) memory.now at (act_of act.now) go (slice_index vars.old))) }
 {
+    run.path.push_reserved(at);
     match act {
         Act::Let {
             var,
             value: e,
             next,
         } => {
-            let v = value(e, lent, vars);
-            bind(lent.names.vars, vars, *var, v.bits);
+            let v = value(e, env, vars);
+            bind(env.names.vars, vars, *var, v.bits);
             Next::Go(*next)
         }
         Act::Read {
@@ -75,12 +81,22 @@ pub fn step(
             other,
             ..
         } => {
-            let v = value(cell, lent, vars);
+            let v = value(cell, env, vars);
             match memory.word_at(v.bits) {
-                None => Next::Go(*other),
+                None => {
+                    run.sides.push_reserved(SideTaken {
+                        node: at,
+                        by_then: false,
+                    });
+                    Next::Go(*other)
+                }
                 Some(word) => {
-                    bind(lent.names.vars, vars, *var, word);
-                    reads.push_reserved(ReadMade {
+                    bind(env.names.vars, vars, *var, word);
+                    run.sides.push_reserved(SideTaken {
+                        node: at,
+                        by_then: true,
+                    });
+                    run.reads.push_reserved(ReadMade {
                         node: at,
                         cell: v.bits,
                         word,
@@ -94,15 +110,17 @@ pub fn step(
             then_to,
             other,
         } => {
-            let v = value(test, lent, vars);
-            Next::Go(branch(v.bits, *then_to, *other))
+            let v = value(test, env, vars);
+            let by_then = v.bits == 1;
+            run.sides.push_reserved(SideTaken { node: at, by_then });
+            Next::Go(branch(by_then, *then_to, *other))
         }
         Act::Fault { code } => Next::End(End::Fault {
             node: at,
             code: *code,
         }),
         Act::Done { pa, page } => {
-            let v = value(pa, lent, vars);
+            let v = value(pa, env, vars);
             Next::End(End::Done {
                 node: at,
                 pa: v.bits,

@@ -1,5 +1,5 @@
 -- The tables for one bit keep agreement.
-use Rattle.std.proofs.Common.{◌≡◌, Bool, true, false, not, ◌&&◌, ◌||◌, cond, Option, None, is_some, arith}
+use Rattle.std.proofs.Common.{◌≡◌, Bool, true, false, not, ◌&&◌, ◌||◌, cond, Option, None, is_some, arith, refl}
 use Rattle.dt_bits.specs.Bits.{differs, majority}
 use Rattle.dt_known.specs.Known.{is_one, is_zero, either, clash}
 use Rattle.dt_known.specs.Forward.{not_bit, and_bit, or_bit, xor_bit, sum_bit, carry_bit, ite_bit}
@@ -79,20 +79,12 @@ agree_where_zero t r p q h k = grind arith
 pub agree_turned : (o : Option Bool) (p q : Bool) → Agrees o q → differs p q ≡ true → Agrees (not_bit o) p
 agree_turned o p q h k = grind arith
 
-pub and_turn : (p q : Bool) → (p && q) ≡ (q && p)
-and_turn p q = grind arith
-
-pub or_turn : (p q : Bool) → (p || q) ≡ (q || p)
-or_turn p q = grind arith
-
-pub differs_turn : (p q : Bool) → differs p q ≡ differs q p
-differs_turn p q = grind arith
-
 pub one_says : (o : Option Bool) (p : Bool) → Agrees o p → is_one o ≡ true → p ≡ true
 one_says o p h e = grind arith
 
 pub zero_says : (o : Option Bool) (p : Bool) → Agrees o p → is_zero o ≡ true → p ≡ false
 zero_says o p h e = grind arith
 
-pub differs_false : (p q : Bool) → differs p q ≡ false → p ≡ q
-differs_false p q e = grind arith
+pub agree_cond : (b : Bool) (o u : Option Bool) (p : Bool) → (b ≡ true → Agrees o p) → (b ≡ false → Agrees u p) → Agrees (cond b o u) p
+agree_cond true o u p h k = h refl
+agree_cond false o u p h k = k refl

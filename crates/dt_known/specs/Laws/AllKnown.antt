@@ -1,6 +1,7 @@
 -- Where all bits of the operands are known, so are all bits of the result.
 use Rattle.std.proofs.Common.{◌≡◌, ℕ, zero, suc, ◌+◌, ◌-◌, ◌^◌, ◌<◌, ◌≤◌, Bool, true, false, not, ◌&&◌, cond, eqb, ltb, leb, Option, Some, None, is_some, refl, sym, ap, ◌∙◌, subst, min, lit<, arith}
 use Rattle.std.proofs.lemmas.Bool.{cond-false, and_parts, ltb-true, ltb-false, leb-true, leb-false, eqb-true, false≢true}
+use Rattle.dt_bits.proofs.Operators.{none_used}
 use Rattle.dt_bits.specs.Bits.{some_below}
 use Rattle.dt_bits.specs.declared.op.Op.{Op}
 use Rattle.dt_bits.specs.declared.op.Op.TheVariants.{Const, Not, And, Or, Xor, Add, Sub, Slice, Concat, SignExt, Shl, Shr, Eq, Ltu, Ite}
@@ -12,7 +13,6 @@ use Rattle.dt_known.specs.Forward.{forward_bit, known_forward, some_used_empty, 
 use Rattle.dt_known.specs.Ops.{known_ops}
 use Rattle.dt_known.specs.Laws.Bits.{all_from_bits, known_all}
 use Rattle.dt_known.specs.Laws.Agreement.{some_not, some_and, some_or, some_xor, some_sum, some_carry, some_ite}
-use Rattle.dt_known.specs.Laws.Calls.{none_used_empty}
 
 some_carry_into : (c : Bool) (f g : ℕ → Option Bool) (w i : ℕ) → ((j : ℕ) → j < w → is_some (f j) ≡ true) → ((j : ℕ) → j < w → is_some (g j) ≡ true) → i ≤ w → is_some (carry_into c f g i) ≡ true
 unfolding carry_into
@@ -89,7 +89,7 @@ forward_whole Ite a b c f u = let e = f.fits in λ i l.
 -- known operands give a known result
 pub forward_known : (op : Op) (a b c : Known) → Fitting known_ops op a b c → AreUsedKnown known_ops op a b c → IsAllKnown known_ops (known_forward op a b c)
 forward_known op a b c f u =
-    let e = none_used_empty op a b c (λ l. (u.first l).0) (λ l. (u.second l).0) (λ l. (u.third l).0) in
+    let e = none_used op a.empty b.empty c.empty (λ l. (u.first l).0) (λ l. (u.second l).0) (λ l. (u.third l).0) in
     subst (IsAllKnown known_ops)
     (sym (cond-false (some_used_empty op a b c) (nothing (width_after op a b c)) (from_bits (width_after op a b c) (forward_bit op a b c)) e))
     (refl, all_from_bits (width_after op a b c) (forward_bit op a b c) (forward_whole op a b c f u))

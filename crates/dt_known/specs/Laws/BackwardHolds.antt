@@ -3,13 +3,14 @@ use Rattle.std.proofs.Common.{◌≡◌, ℕ, zero, suc, ◌+◌, ◌-◌, ◌*�
 use Rattle.std.proofs.lemmas.Bool.{and_parts, ltb-true, eqb-true, eqb-false, leb-true, eq-eqb, false≢true, not-true, not-false, cases_Bool, false_from_ne_true, true_from_ne_false}
 use Rattle.std.proofs.lemmas.Bool.Decides.{nat_tests}
 use Rattle.std.proofs.lemmas.Nat.{pow_pos, mod_below}
+use Rattle.dt_lemmas.proofs.Booleans.{and_turn, or_turn}
 use Rattle.dt_bits.specs.Bits.{bit, differs, some_below}
 use Rattle.dt_bits.specs.Ops.{fits_at}
 use Rattle.dt_bits.specs.declared.value.Width.{Width}
 use Rattle.dt_bits.specs.declared.op.Op.{Op}
 use Rattle.dt_bits.specs.declared.op.Op.TheVariants.{Const, Not, And, Or, Xor, Add, Sub, Slice, Concat, SignExt, Shl, Shr, Eq, Ltu, Ite}
-use Rattle.dt_bits.proofs.BitLemmas.{same_bits, bit_of_and, bit_of_or, bit_of_xor, bit_of_mod, bit_of_shr, bit_of_shl_high, bit_of_low, bit_of_high, bit_of_small, bit_of_complement, top_bit_is}
-use Rattle.dt_bits.proofs.Moduli.{sub_of_add, add_of_sub, sub_of_sub}
+use Rattle.dt_bits.proofs.BitLemmas.{same_bits, bit_of_and, bit_of_or, bit_of_xor, bit_of_mod, bit_of_shr, bit_of_shl_high, bit_of_low, bit_of_high, bit_of_small, bit_of_complement, top_bit_is, differs_false, differs_turn}
+use Rattle.dt_lemmas.proofs.Moduli.{sub_of_add, add_of_sub, sub_of_sub}
 use Rattle.dt_bits.proofs.Below.{none_below, none_below_from, found_below}
 use Rattle.dt_domain.specs.Domain.{FittingAt, HoldUsed, value_at, operand}
 use Rattle.dt_known.specs.declared.Known.{Known}
@@ -18,16 +19,12 @@ use Rattle.dt_known.specs.Forward.{not_bit}
 use Rattle.dt_known.specs.Backward.{backward_bit, has_conflict, apart_bit, is_only_unknown, eq_back, eq_conflict, some_one_from, some_zero_from, top_bit, test_bit}
 use Rattle.dt_known.specs.Ops.{known_ops}
 use Rattle.dt_known.specs.Laws.Bits.{Agrees, Held, held}
-use Rattle.dt_known.specs.Laws.Agreement.{agree_and_back, agree_or_back, agree_xor_back, agree_where_one, agree_where_zero, agree_turned, and_turn, or_turn, differs_turn, no_clash, known_same, one_says, zero_says, differs_false}
+use Rattle.dt_known.specs.Laws.Agreement.{agree_and_back, agree_or_back, agree_xor_back, agree_where_one, agree_where_zero, agree_turned, no_clash, known_same, one_says, zero_says, agree_cond}
 use Rattle.dt_known.specs.Laws.ForwardHolds.{bit_of_flag, right_add, right_sub, right_sign, same_width}
 
 -- where bit n i is b
 back : (o : Option Bool) (n i : ℕ) (b : Bool) → bit n i ≡ b → Agrees o (bit n i) → Agrees o b
 back o n i b e h = subst (λ c. Agrees o c) e h
-
-agree_cond : (b : Bool) (o u : Option Bool) (p : Bool) → (b ≡ true → Agrees o p) → (b ≡ false → Agrees u p) → Agrees (cond b o u) p
-agree_cond true o u p h k = h refl
-agree_cond false o u p h k = k refl
 
 pub back_slice : (x lo hi i : ℕ) (f : ℕ → Option Bool) → ((j : ℕ) → Agrees (f j) (bit (x / 2 ^ lo % 2 ^ (hi - lo + 1)) j))
     → Agrees (cond (leb lo i && leb i hi) (f (i - lo)) None) (bit x i)

@@ -1,14 +1,14 @@
 -- Forward and backward make Knowns of the right widths, and hold what they must.
-use Rattle.std.proofs.Common.{◌≡◌, ℕ, zero, suc, ◌^◌, ◌<◌, Bool, true, false, not, ◌&&◌, ◌||◌, ltb, leb, refl, sym, subst, lit≤, arith}
-use Rattle.std.proofs.lemmas.Bool.{cond_both, cond-false, and_parts, or_from, ltb-true, leb-true, not-true}
+use Rattle.std.proofs.Common.{◌≡◌, ℕ, zero, suc, ◌^◌, ◌<◌, true, false, not, ◌||◌, refl, sym, subst, arith}
+use Rattle.std.proofs.lemmas.Bool.{cond_both, cond-false, and_parts, or_from, not-true}
+use Rattle.dt_bits.proofs.Operators.{none_used, result_is_width}
 use Rattle.dt_bits.specs.Bits.{IsWidth}
 use Rattle.dt_bits.specs.Ops.{arity_of}
 use Rattle.dt_bits.specs.declared.op.Op.{Op}
-use Rattle.dt_bits.specs.declared.op.Op.TheVariants.{Const, Not, And, Or, Xor, Add, Sub, Slice, Concat, SignExt, Shl, Shr, Eq, Ltu, Ite}
 use Rattle.dt_domain.specs.Domain.{Fitting, FittingAt, HoldUsed, value_at, operand, Holds, IsDomainOf}
 use Rattle.dt_known.specs.declared.Known.{Known}
 use Rattle.dt_known.specs.Known.{IsKnown, known_holds, from_bits, nothing}
-use Rattle.dt_known.specs.Forward.{forward_bit, known_forward, some_used_empty, is_used_empty, width_after}
+use Rattle.dt_known.specs.Forward.{forward_bit, known_forward, some_used_empty, width_after}
 use Rattle.dt_known.specs.Backward.{backward_bit, has_conflict, known_backward}
 use Rattle.dt_known.specs.Ops.{known_ops}
 use Rattle.dt_known.specs.Laws.Bits.{held, holds_from_bits, known_is_from_bits, known_is_nothing}
@@ -17,44 +17,17 @@ use Rattle.dt_known.specs.Laws.BackwardHolds.{backward_keeps}
 
 -- ---- widths
 
-result_is_width : (op : Op) (a b c : Known) → Fitting known_ops op a b c → IsWidth (width_after op a b c).0
-result_is_width (Const value) a b c f = f.op_is.0
-result_is_width Not a b c f = f.a_is.width
-result_is_width And a b c f = f.a_is.width
-result_is_width Or a b c f = f.a_is.width
-result_is_width Xor a b c f = f.a_is.width
-result_is_width Add a b c f = f.a_is.width
-result_is_width Sub a b c f = f.a_is.width
-result_is_width (Slice hi lo) a b c f =
-    let l = ltb-true _ _ (and_parts (leb lo hi) (ltb hi a.width.0) f.fits).1 in (omega arith, omega (arith, f.a_is.width.1))
-result_is_width Concat a b c f = (omega (arith, f.a_is.width.0), leb-true _ _ f.fits)
-result_is_width (SignExt to) a b c f =
-    let l = and_parts (leb a.width.0 to) (leb to 128) f.fits in let s = leb-true _ _ l.0 in (omega (arith, f.a_is.width.0), leb-true _ _ l.1)
-result_is_width (Shl by) a b c f = f.a_is.width
-result_is_width (Shr by) a b c f = f.a_is.width
-result_is_width Eq a b c f = (lit≤ tt, lit≤ tt)
-result_is_width Ltu a b c f = (lit≤ tt, lit≤ tt)
-result_is_width Ite a b c f = f.b_is.width
+width_is : (op : Op) (a b c : Known) → Fitting known_ops op a b c → IsWidth (width_after op a b c).0
+width_is op a b c f = result_is_width op a.width.0 b.width.0 c.width.0 f.op_is f.a_is.width f.b_is.width f.fits
 
 -- ---- forward
-
-unused : (t e : Bool) → (t ≡ true → e ≡ false) → (t && e) ≡ false
-unused true e h = h refl
-unused false e h = refl
 
 full_held : (a : Known) (x : ℕ) → known_holds a x ≡ true → a.empty ≡ false
 full_held a x h = not-true a.empty (and_parts (not a.empty) _ h).0
 
-pub none_used_empty : (op : Op) (a b c : Known) → (0 < arity_of op → a.empty ≡ false) → (1 < arity_of op → b.empty ≡ false) → (2 < arity_of op → c.empty ≡ false)
-    → some_used_empty op a b c ≡ false
-none_used_empty op a b c p q r =
-    or_from (is_used_empty op 0 a) _ (unused (ltb 0 (arity_of op)) a.empty (λ e. p (ltb-true _ _ e)))
-    (or_from (is_used_empty op 1 b) (is_used_empty op 2 c) (unused (ltb 1 (arity_of op)) b.empty (λ e. q (ltb-true _ _ e)))
-    (unused (ltb 2 (arity_of op)) c.empty (λ e. r (ltb-true _ _ e))))
-
 pub forward_is : (op : Op) (a b c : Known) → Fitting known_ops op a b c → IsDomainOf known_ops (width_after op a b c) (known_forward op a b c)
 forward_is op a b c f =
-    let w = result_is_width op a b c f in
+    let w = width_is op a b c f in
     cond_both (some_used_empty op a b c) (nothing (width_after op a b c)) (from_bits (width_after op a b c) (forward_bit op a b c))
     (λ k. IsKnown k × (k.width ≡ width_after op a b c))
     (λ _. (known_is_nothing _ w, refl)) (λ _. (known_is_from_bits _ _ w, refl))
@@ -63,7 +36,7 @@ pub forward_holds : (op : Op) (a b c : Known) (x y z : ℕ) → Fitting known_op
     → Holds known_ops (known_forward op a b c) (value_at known_ops op a b c x y z)
 forward_holds op a b c x y z f u =
     let t = forward_right op a b c x y z f u in
-    let e = none_used_empty op a b c (λ l. full_held a x (u.first l)) (λ l. full_held b y (u.second l)) (λ l. full_held c z (u.third l)) in
+    let e = none_used op a.empty b.empty c.empty (λ l. full_held a x (u.first l)) (λ l. full_held b y (u.second l)) (λ l. full_held c z (u.third l)) in
     subst (λ k. known_holds k (value_at known_ops op a b c x y z) ≡ true)
     (sym (cond-false (some_used_empty op a b c) (nothing (width_after op a b c)) (from_bits (width_after op a b c) (forward_bit op a b c)) e))
     (holds_from_bits (width_after op a b c) (forward_bit op a b c) _ t.fits t.agrees)
@@ -95,7 +68,7 @@ pub backward_holds : (op : Op) (k : ℕ) (r a b c : Known) (x y z : ℕ) → Fit
 backward_holds op k r a b c x y z f u t =
     let v = (operand k a b c).width in
     let g = backward_keeps op k r a b c x y z f u t in
-    let e = none_used_empty op a b c (λ l. full_held a x (u.first l)) (λ l. full_held b y (u.second l)) (λ l. full_held c z (u.third l)) in
+    let e = none_used op a.empty b.empty c.empty (λ l. full_held a x (u.first l)) (λ l. full_held b y (u.second l)) (λ l. full_held c z (u.third l)) in
     let d = or_from r.empty _ (full_held r _ t) (or_from (some_used_empty op a b c) (has_conflict op k r a b c) e g.0) in
     subst (λ m. known_holds m (operand k x y z) ≡ true)
     (sym (cond-false (r.empty || (some_used_empty op a b c || has_conflict op k r a b c)) (nothing v) (from_bits v (backward_bit op k r a b c)) d))

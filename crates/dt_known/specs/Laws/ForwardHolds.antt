@@ -1,8 +1,8 @@
 -- The tables of forward agree with the operators' values, bit by bit.
 use Rattle.std.proofs.Common.{◌≡◌, ℕ, zero, suc, ◌+◌, ◌-◌, ◌*◌, ◌/◌, ◌%◌, ◌^◌, ◌<◌, ◌≤◌, Bool, true, false, not, ◌&&◌, cond, eqb, ltb, leb, bit_and, bit_or, bit_xor, Option, Some, None, is_some, refl, sym, ap, ◌∙◌, subst, ⊎_elim, min, lit<, arith}
-use Rattle.std.proofs.Math.Nat.{pow-le-pow_right}
 use Rattle.std.proofs.lemmas.Bool.{cases_lt, cond_both, and_parts, lt-ltb, le-ltb, ltb-true, ltb-false, eqb-true, leb-true, eq-eqb, ne_eqb, not-true, not-false}
 use Rattle.std.proofs.lemmas.Nat.{pow_pos, mod_below, and_le_l, or_lt, xor_lt, and-not, shr_le, pow-add, mul-add-lt, and_comm}
+use Rattle.dt_lemmas.proofs.Powers.{wider, spread_over}
 use Rattle.dt_bits.specs.Bits.{bit, differs, carry_at, some_below}
 use Rattle.dt_bits.specs.declared.op.Op.{Op}
 use Rattle.dt_bits.specs.declared.op.Op.TheVariants.{Const, Not, And, Or, Xor, Add, Sub, Slice, Concat, SignExt, Shl, Shr, Eq, Ltu, Ite}
@@ -15,7 +15,7 @@ use Rattle.dt_known.specs.Known.{known_bit, clash, all_known, are_apart}
 use Rattle.dt_known.specs.Forward.{forward_bit, not_bit, and_bit, or_bit, xor_bit, carry_into, sum_at, difference_at, ltu_bit, ite_bit, greatest, width_after}
 use Rattle.dt_known.specs.Ops.{known_ops}
 use Rattle.dt_known.specs.Laws.Bits.{Agrees, Tells, Held, held}
-use Rattle.dt_known.specs.Laws.Agreement.{agree_not, agree_and, agree_or, agree_xor, agree_carry, agree_ite, clash_differs, known_same}
+use Rattle.dt_known.specs.Laws.Agreement.{agree_not, agree_and, agree_or, agree_xor, agree_carry, agree_ite, clash_differs, known_same, agree_cond}
 
 -- the number fits w bits, and each bit agrees with what f says
 pub record Right (w : ℕ) (f : ℕ → Option Bool) (n : ℕ) : Type 0 where
@@ -71,10 +71,6 @@ right_slice n lo x f t = record {
   agrees = λ i l. at _ _ i _ (bit_of_mod (x / 2 ^ lo) n i l ∙ bit_of_shr x lo i) (t (lo + i));
 }
 
-agree_cond : (b : Bool) (o u : Option Bool) (p : Bool) → (b ≡ true → Agrees o p) → (b ≡ false → Agrees u p) → Agrees (cond b o u) p
-agree_cond true o u p h k = h refl
-agree_cond false o u p h k = k refl
-
 pub right_concat : (v w x y : ℕ) (f g : ℕ → Option Bool) → x < 2 ^ v → y < 2 ^ w → ((i : ℕ) → Agrees (f i) (bit x i)) → ((i : ℕ) → Agrees (g i) (bit y i))
     → Right (v + w) (λ i. cond (ltb i w) (g i) (f (i - w))) (x * 2 ^ w + y)
 right_concat v w x y f g hx hy s t = record {
@@ -111,17 +107,6 @@ right_flag o p h = record {
   fits = cond_both p 1 0 (λ n. n < 2) (λ _. omega arith) (λ _. omega arith);
   agrees = λ i l. at o _ i _ (bit_of_flag p i l) h;
 }
-
-wider : (w to : ℕ) → w ≤ to → 2 ^ w ≤ 2 ^ to
-wider w to h = pow-le-pow_right (omega arith) h
-
-spread_over : (w to x : ℕ) → w ≤ to → (2 ^ (to - w) - 1) * 2 ^ w + x ≡ x + (2 ^ to - 2 ^ w)
-spread_over w to x le =
-    let k = 2 ^ (to - w) - 1 in
-    let d : (to - w) + w ≡ to = omega arith in
-    let parts : 2 ^ to ≡ 2 ^ (to - w) * 2 ^ w = ap (λ n. 2 ^ n) (sym d) ∙ pow-add 2 (to - w) w in
-    let e : 2 ^ (to - w) ≡ k + 1 = omega (arith, pow_pos (to - w)) in
-    omega (arith, ap (λ n. n * 2 ^ w) e, parts)
 
 at_min : (f : ℕ → Option Bool) (i j : ℕ) (p : Bool) → min i j ≡ i → Agrees (f i) p → Agrees (f (min i j)) p
 at_min f i j p e h = subst (λ k. Agrees (f k) p) (sym e) h

@@ -1,15 +1,17 @@
 -- What a meet holds and knows, and the Known of one bit.
-use Rattle.std.proofs.Common.{◌≡◌, ℕ, ◌^◌, ◌<◌, ◌≤◌, Bool, true, false, ◌||◌, cond, eqb, Option, Some, None, is_some, refl, sym, ap, ◌∙◌, subst, inl, inr, ◌⊎◌, ⊎_elim, arith}
-use Rattle.std.proofs.lemmas.Bool.{cases_lt, cond_both, cond-false, cond-true, or_parts, or_from, or_left, or_right, eq-eqb, eqb-true, false≢true, cases_Bool}
+use Rattle.std.proofs.Common.{◌≡◌, ℕ, ◌^◌, ◌<◌, ◌≤◌, Bool, true, false, ◌&&◌, ◌||◌, bit_and, cond, eqb, Option, Some, None, is_some, refl, sym, ap, ◌∙◌, subst, inl, inr, ◌⊎◌, ⊎_elim, arith}
+use Rattle.std.specs.Cmp.{both_ways}
+use Rattle.std.proofs.lemmas.Nat.{and_le_l}
+use Rattle.std.proofs.lemmas.Bool.{and_parts, and_from, cases_lt, cond_both, cond-false, cond-true, or_parts, or_from, or_left, or_right, eq-eqb, eqb-true, false≢true, cases_Bool}
 use Rattle.dt_bits.specs.Bits.{IsWidth, bit}
 use Rattle.dt_bits.specs.declared.value.Width.{Width}
-use Rattle.dt_bits.proofs.BitLemmas.{bit_above}
+use Rattle.dt_bits.proofs.BitLemmas.{bit_above, same_bits, bit_of_and}
 use Rattle.dt_bits.proofs.Below.{none_below, none_below_from}
 use Rattle.dt_domain.specs.Domain.{AreAlike, KnowsBit}
 use Rattle.dt_known.specs.declared.Known.{Known}
 use Rattle.dt_known.specs.Known.{IsKnown, known_holds, is_one, known_bit, from_bits, nothing, known_meet, single_bit, clash, either, are_apart}
 use Rattle.dt_known.specs.Ops.{known_ops}
-use Rattle.dt_known.specs.Laws.Bits.{Agrees, held, holds_from_bits, known_is_from_bits, known_is_nothing, mask_bit, value_bit, bit_from_bits}
+use Rattle.dt_known.specs.Laws.Bits.{Agrees, agree_masked, value_fits, held_is, held, holds_from_bits, known_is_from_bits, known_is_nothing, mask_bit, value_bit, bit_from_bits}
 use Rattle.dt_known.specs.Laws.Agreement.{agree_either, no_clash}
 
 pub meet_is : (a b : Known) → AreAlike known_ops a b → IsKnown (known_meet a b) × ((known_meet a b).width ≡ a.width)
@@ -30,7 +32,7 @@ meet_empty a b g s =
     ap (λ (k : Known). k.empty) (cond-true _ (nothing a.width) (from_bits a.width (λ i. either (known_bit a i) (known_bit b i)))
     (⊎_elim (λ (t : a.empty ≡ true). or_left a.empty _ t) (λ (t : b.empty ≡ true). or_right a.empty _ (or_left b.empty _ t)) s))
 
-knows_bit : (a : Known) (i : ℕ) (v : Bool) → KnowsBit known_ops a i v → known_bit a i ≡ Some v
+pub knows_bit : (a : Known) (i : ℕ) (v : Bool) → KnowsBit known_ops a i v → known_bit a i ≡ Some v
 knows_bit a i v h = ap (λ b. cond b (Some (bit a.value i)) None) h.0 ∙ ap Some h.1
 
 pub bit_knows : (a : Known) (i : ℕ) (v : Bool) → IsKnown a → known_bit a i ≡ Some v → KnowsBit known_ops a i v
@@ -44,11 +46,11 @@ either_keeps : (o u : Option Bool) (v : Bool) → clash o u ≡ false → (o ≡
 either_keeps o u v h s = grind arith
 
 -- a meet that isn't empty
-record Met (a b : Known) : Type 0 where
-  is : known_meet a b ≡ from_bits a.width (λ i. either (known_bit a i) (known_bit b i))
-  apart : (i : ℕ) → i < a.width.0 → clash (known_bit a i) (known_bit b i) ≡ false
+pub record Met (a b : Known) : Type 0 where
+  pub is : known_meet a b ≡ from_bits a.width (λ i. either (known_bit a i) (known_bit b i))
+  pub apart : (i : ℕ) → i < a.width.0 → clash (known_bit a i) (known_bit b i) ≡ false
 
-met_is : (a b : Known) → (known_meet a b).empty ≡ false → Met a b
+pub met_is : (a b : Known) → (known_meet a b).empty ≡ false → Met a b
 met_is a b h = ⊎_elim
     (λ (t : (a.empty || (b.empty || are_apart a b)) ≡ true).
     absurd (false≢true (sym h ∙ ap (λ (k : Known). k.empty) (cond-true _ (nothing a.width) (from_bits a.width (λ i. either (known_bit a i) (known_bit b i))) t))))
@@ -68,17 +70,58 @@ meet_knows a b i v g h s =
     subst (λ k. KnowsBit known_ops k i v) (sym m.is)
     (bit_knows (from_bits a.width (λ i. either (known_bit a i) (known_bit b i))) i v (known_is_from_bits _ _ g.a_is.width) (bit_from_bits a.width (λ i. either (known_bit a i) (known_bit b i)) i l ∙ e))
 
+-- ---- exactly what both hold
+
+either_first : (o u : Option Bool) (p : Bool) → Agrees (either o u) p → Agrees o p
+either_first None u p h = tt
+either_first (Some v) u p h = h
+
+either_second : (o u : Option Bool) (p : Bool) → clash o u ≡ false → Agrees (either o u) p → Agrees u p
+either_second o u p e h = grind arith
+
+-- a number that agrees with the known bits is held
+agreeing_held : (a : Known) (x : ℕ) → IsKnown a → a.empty ≡ false → x < 2 ^ a.width.0 → ((i : ℕ) → i < a.width.0 → Agrees (known_bit a i) (bit x i)) → known_holds a x ≡ true
+agreeing_held a x p e h k = held_is a x e h (same_bits a.width.0 (bit_and x a.mask) a.value (omega (arith, and_le_l x a.mask)) (value_fits a p)
+    (λ i l. bit_of_and x a.mask i ∙ ap (λ b. bit x i && b) (mask_bit a i) ∙ agree_masked (known_bit a i) (bit x i) (k i l) ∙ sym (value_bit a i p)))
+
+not_empty : (e : Bool) → (e ≡ true → ⊥) → e ≡ false
+not_empty true h = absurd (h refl)
+not_empty false h = refl
+
+-- what a meet holds, both hold
+meet_held : (a b : Known) (x : ℕ) → AreAlike known_ops a b → known_holds (known_meet a b) x ≡ true → (known_holds a x && known_holds b x) ≡ true
+meet_held a b x g t =
+    let h = held (known_meet a b) x (meet_is a b g).0 t in
+    let m = met_is a b h.full in
+    let full : (e : (a.empty ≡ true) ⊎ (b.empty ≡ true)) → ⊥ = λ e. false≢true (sym h.full ∙ meet_empty a b g e) in
+    let w : (known_meet a b).width.0 ≡ a.width.0 = ap (λ (w : Width). w.0) (meet_is a b g).1 in
+    let v : a.width.0 ≡ b.width.0 = ap (λ (w : Width). w.0) g.widths in
+    let fits : x < 2 ^ a.width.0 = subst (λ n. x < 2 ^ n) w h.fits in
+    let f : ℕ → Option Bool = λ i. either (known_bit a i) (known_bit b i) in
+    let s : (i : ℕ) → i < a.width.0 → Agrees (either (known_bit a i) (known_bit b i)) (bit x i) = λ i l.
+    subst (λ o. Agrees o (bit x i)) (ap (λ k. known_bit k i) m.is ∙ bit_from_bits a.width f i l) (h.agrees i) in
+    and_from (known_holds a x) (known_holds b x)
+    (agreeing_held a x g.a_is (not_empty a.empty (λ e. full (inl e))) fits (λ i l. either_first (known_bit a i) (known_bit b i) (bit x i) (s i l)))
+    (agreeing_held b x g.b_is (not_empty b.empty (λ e. full (inr e))) (subst (λ n. x < 2 ^ n) v fits)
+    (λ i l. let k = subst (λ n. i < n) (sym v) l in either_second (known_bit a i) (known_bit b i) (bit x i) (m.apart i k) (s i k)))
+
+-- it holds exactly the numbers that both hold
+pub meets : (a b : Known) (x : ℕ) → AreAlike known_ops a b → known_holds (known_meet a b) x ≡ (known_holds a x && known_holds b x)
+meets a b x g = both_ways (known_holds (known_meet a b) x) (known_holds a x && known_holds b x)
+    (λ t. meet_held a b x g t)
+    (λ t. let p = and_parts (known_holds a x) (known_holds b x) t in meet_holds a b x g p.0 p.1)
+
 -- ---- with_bit
 
 pub single_knows : (w : Width) (i : ℕ) (v : Bool) → i < w.0 → known_bit (single_bit w i v) i ≡ Some v
 single_knows w i v l = bit_from_bits w _ i l ∙ cond-true (eqb i i) (Some v) None (eq-eqb i i refl)
 
 pub single_holds : (w : Width) (i : ℕ) (v : Bool) (x : ℕ) → x < 2 ^ w.0 → bit x i ≡ v → known_holds (single_bit w i v) x ≡ true
-single_holds w i v x h e = holds_from_bits w _ x h (λ j l. told (eqb j i) j refl)
+single_holds w i v x h e = holds_from_bits w _ x h (λ j l. agrees (eqb j i) j refl)
   where
-    told : (t : Bool) (j : ℕ) → eqb j i ≡ t → Agrees (cond t (Some v) None) (bit x j)
-    told true j s = sym e ∙ ap (bit x) (sym (eqb-true j i s))
-    told false j s = tt
+    agrees : (t : Bool) (j : ℕ) → eqb j i ≡ t → Agrees (cond t (Some v) None) (bit x j)
+    agrees true j s = sym e ∙ ap (bit x) (sym (eqb-true j i s))
+    agrees false j s = tt
 
 pub single_is : (w : Width) (i : ℕ) (v : Bool) → IsWidth w.0 → IsKnown (single_bit w i v)
 single_is w i v h = known_is_from_bits w _ h

@@ -2,18 +2,16 @@
 use Rattle.std.proofs.Common.{◌≡◌, ℕ, ◌+◌, ◌-◌, ◌*◌, ◌/◌, ◌%◌, ◌^◌, ◌<◌, ◌≤◌, Bool, true, false, not, ◌&&◌, cond, ltb, bit_and, sym, ap, ◌∙◌, subst, ⊎_elim, arith}
 use Rattle.std.proofs.lemmas.Bool.{cases_lt, cases_order, and_parts, and_from, eqb-true, eq-eqb, not-true, cond-true, cond-false, le-ltb, lt-ltb}
 use Rattle.std.proofs.lemmas.Nat.{pow_pos, pow-add, and_shr, and_mod, and_le_l, and_le_r, shr_below, mul-add-lt, mod_below, shr-shr, div-mul-add}
+use Rattle.dt_lemmas.proofs.Powers.{quotient_le, pow_next, odd_above}
 use Rattle.dt_bits.specs.Bits.{bit}
-use Rattle.dt_bits.proofs.BitLemmas.{same_bits, bit_of_and, bit_of_shr, bit_of_mod, bit_of_joined, bit_of_ones}
+use Rattle.dt_bits.proofs.BitLemmas.{same_bits, bit_of_and, bit_of_shr, bit_of_mod, bit_of_joined, bit_of_ones, bit_of_odd, upper_bits}
 use Rattle.dt_pair.specs.Ends.{has_bits, agrees_above, is_candidate, candidate, is_known_zero}
-use Rattle.dt_pair.specs.Laws.Splits.{Parting, pow_next, split_low, split_high, upper_bits, shr_order}
+use Rattle.dt_pair.specs.Laws.Splits.{Parting, split_low, split_high}
 
 -- ---- its bits
 
-joined : (q p r : ℕ) → q * (p * 2) + p + r ≡ (q * 2 ^ 1 + 1) * p + r
-joined q p r = grind arith
-
 pub candidate_form : (v lo i : ℕ) → candidate v lo i ≡ (lo / 2 ^ (i + 1) * 2 ^ 1 + 1) * 2 ^ i + v % 2 ^ i
-candidate_form v lo i = ap (λ p. lo / 2 ^ (i + 1) * p + 2 ^ i + v % 2 ^ i) (pow_next i) ∙ joined (lo / 2 ^ (i + 1)) (2 ^ i) (v % 2 ^ i)
+candidate_form v lo i = ap (λ p. lo / 2 ^ (i + 1) * p + 2 ^ i + v % 2 ^ i) (pow_next i) ∙ odd_above (lo / 2 ^ (i + 1)) (2 ^ i) (v % 2 ^ i)
 
 bits : (v lo i j : ℕ) → bit (candidate v lo i) j ≡ cond (ltb j i) (bit (v % 2 ^ i) j) (bit (lo / 2 ^ (i + 1) * 2 ^ 1 + 1) (j - i))
 bits v lo i j = ap (λ n. bit n j) (candidate_form v lo i) ∙ bit_of_joined (lo / 2 ^ (i + 1) * 2 ^ 1 + 1) i (v % 2 ^ i) j (mod_below v (2 ^ i) (pow_pos i))
@@ -21,20 +19,17 @@ bits v lo i j = ap (λ n. bit n j) (candidate_form v lo i) ∙ bit_of_joined (lo
 pub bits_below : (v lo i j : ℕ) → j < i → bit (candidate v lo i) j ≡ bit v j
 bits_below v lo i j l = bits v lo i j ∙ cond-true (ltb j i) _ _ (lt-ltb j i l) ∙ bit_of_mod v i j l
 
-odd : (q k : ℕ) → bit (q * 2 ^ 1 + 1) k ≡ cond (ltb k 1) (bit 1 k) (bit q (k - 1))
-odd q k = bit_of_joined q 1 1 k (omega arith)
-
 pub bit_here : (v lo i : ℕ) → bit (candidate v lo i) i ≡ true
 bit_here v lo i =
     let z : i - i ≡ 0 = omega arith in
     bits v lo i i ∙ cond-false (ltb i i) _ _ (le-ltb i i (omega arith))
-    ∙ ap (bit (lo / 2 ^ (i + 1) * 2 ^ 1 + 1)) z ∙ odd (lo / 2 ^ (i + 1)) 0 ∙ bit_of_ones 1 0 (omega arith)
+    ∙ ap (bit (lo / 2 ^ (i + 1) * 2 ^ 1 + 1)) z ∙ bit_of_odd (lo / 2 ^ (i + 1)) 0 ∙ bit_of_ones 1 0 (omega arith)
 
 pub bits_above : (v lo i j : ℕ) → i < j → bit (candidate v lo i) j ≡ bit lo j
 bits_above v lo i j l =
     let e : i + 1 + (j - i - 1) ≡ j = omega arith in
     bits v lo i j ∙ cond-false (ltb j i) _ _ (le-ltb j i (omega arith))
-    ∙ odd (lo / 2 ^ (i + 1)) (j - i) ∙ cond-false (ltb (j - i) 1) _ _ (le-ltb (j - i) 1 (omega arith))
+    ∙ bit_of_odd (lo / 2 ^ (i + 1)) (j - i) ∙ cond-false (ltb (j - i) 1) _ _ (le-ltb (j - i) 1 (omega arith))
     ∙ bit_of_shr lo (i + 1) (j - i - 1) ∙ ap (bit lo) e
 
 -- ---- known bits
@@ -133,5 +128,5 @@ candidate_below w m v lo y i p l =
     let a : lo / 2 ^ p.at ≡ lo / 2 ^ (p.at + 1) * 2 + 0 = subst (λ b. lo / 2 ^ p.at ≡ lo / 2 ^ (p.at + 1) * 2 + cond b 1 0) p.low (upper_bits lo p.at) in
     let b : y / 2 ^ p.at ≡ y / 2 ^ (p.at + 1) * 2 + 1 = subst (λ b. y / 2 ^ p.at ≡ y / 2 ^ (p.at + 1) * 2 + cond b 1 0) p.high (upper_bits y p.at) in
     ⊎_elim (λ (o : x < y). o)
-    (λ (o : y ≤ x). let u = shr_order y x p.at o in let c = p.same in absurd (omega (arith, t, a, b, u, c)))
+    (λ (o : y ≤ x). let u = quotient_le y x p.at o in let c = p.same in absurd (omega (arith, t, a, b, u, c)))
     (cases_lt x y)

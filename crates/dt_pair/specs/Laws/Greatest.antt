@@ -3,13 +3,12 @@
 use Rattle.std.proofs.Common.{◌≡◌, ℕ, zero, suc, ◌+◌, ◌-◌, ◌*◌, ◌/◌, ◌%◌, ◌^◌, ◌<◌, ◌≤◌, Bool, true, false, not, ◌&&◌, cond, bit_and, bit_xor, Option, Some, None, refl, sym, ap, ◌∙◌, subst, arith}
 use Rattle.std.specs.Cmp.{both_ways}
 use Rattle.std.specs.Option.{option_map}
-use Rattle.std.specs.Int.Bits.{xor_add_and}
 use Rattle.std.proofs.lemmas.Bool.{eq-eqb}
-use Rattle.std.proofs.lemmas.Nat.{pow_pos, pow-add, and_shr, and_mod, and_comm, and_le_r, xor_shr, xor_mod, xor_lt, shr_below, mod_below}
+use Rattle.std.proofs.lemmas.Nat.{pow_pos, pow-add, and_shr, and_mod, and_le_r, xor_shr, xor_mod, xor_lt, shr_below, mod_below}
+use Rattle.dt_lemmas.proofs.Powers.{pow_next, xor_within}
 use Rattle.dt_bits.specs.Bits.{bit, differs}
-use Rattle.dt_bits.proofs.BitLemmas.{same_bits, bit_of_and, bit_of_xor, bit_of_shr, bit_of_complement}
+use Rattle.dt_bits.proofs.BitLemmas.{same_bits, bit_of_and, bit_of_xor, bit_of_complement, shr_turned}
 use Rattle.dt_pair.specs.Ends.{has_bits, agrees_above, is_known_one, is_candidate, candidate, lesser, least_candidate, least_from, is_high_candidate, high_candidate, greater, greatest_candidate, greatest_from, IsLeastFound, IsGreatestFound}
-use Rattle.dt_pair.specs.Laws.Splits.{pow_next}
 use Rattle.dt_pair.specs.Laws.Candidates.{has_bit}
 use Rattle.dt_pair.specs.Laws.Least.{AreWords, least_is}
 
@@ -57,14 +56,6 @@ turned_same w m v x a h = both_ways (has_bits m v x) (has_bits m (bit_xor m v) (
 
 -- ---- candidates turned
 
--- shifted right
-shr_turned : (j k x : ℕ) → x < 2 ^ (j + k) → (2 ^ (j + k) - 1 - x) / 2 ^ k ≡ 2 ^ j - 1 - x / 2 ^ k
-shr_turned j k x h =
-    let q : x / 2 ^ k < 2 ^ j = shr_below x j k h in
-    let l : 2 ^ (j + k) - 1 - x < 2 ^ (j + k) = omega (arith, pow_pos (j + k)) in
-    same_bits j ((2 ^ (j + k) - 1 - x) / 2 ^ k) (2 ^ j - 1 - x / 2 ^ k) (shr_below (2 ^ (j + k) - 1 - x) j k l) (omega (arith, pow_pos j))
-    (λ i s. bit_of_shr (2 ^ (j + k) - 1 - x) k i ∙ bit_of_complement (j + k) x (k + i) h (omega arith) ∙ ap not (sym (bit_of_shr x k i)) ∙ sym (bit_of_complement j (x / 2 ^ k) i q s))
-
 -- the words of the bits from k on
 shr_words : (j k m v : ℕ) → AreWords (j + k) m v → AreWords j (m / 2 ^ k) (v / 2 ^ k)
 shr_words j k m v a = record {
@@ -90,9 +81,6 @@ test_turned j i m v hi a h =
     ap (λ r. bit hi i && (not (is_known_one m v i) && r)) (above_turned j i m v hi a h)
     ∙ both_turned (bit hi i) (bit m i) (bit v i) (bit (bit_xor m v) i) (agrees_above m (bit_xor m v) (2 ^ w - 1 - hi) i) (bit (2 ^ w - 1 - hi) i)
     (bit_of_complement w hi i h (omega arith)) (bit_of_xor m v i)
-
-xor_within : (m v : ℕ) → bit_and v m ≡ v → bit_xor m v + v ≡ m
-xor_within m v e = omega (arith, xor_add_and m v, and_comm m v, e)
 
 -- the numbers: k * (p * 2) is 2 ^ w, and q the bits above
 numbers : (k p q c a b u : ℕ) → q < k → c ≡ k - 1 - q → u + b ≡ a → a < p → q * (p * 2) + (b + (p - 1 - a)) ≡ k * (p * 2) - 1 - (c * (p * 2) + p + u)

@@ -3,6 +3,7 @@ use Rattle.std.proofs.Common.{◌≡◌, ℕ, ◌+◌, ◌/◌, ◌^◌, ◌<◌
 use Rattle.std.specs.Cmp.{both_ways}
 use Rattle.std.proofs.lemmas.Bool.{cond_both, cond-false, and_parts, and_from, or_parts, or_cases, eqb-true, eq-eqb, leb-true, le-leb, ltb-true, ltb-false, le-ltb, false≢true}
 use Rattle.std.proofs.lemmas.Nat.{pow_pos, and_le_l, and_le_r, or_lt}
+use Rattle.dt_lemmas.proofs.Powers.{quotient_le}
 use Rattle.dt_bits.specs.Bits.{bit, number_of}
 use Rattle.dt_bits.specs.declared.value.Width.{Width}
 use Rattle.dt_bits.proofs.BitLemmas.{same_bits, bit_of_and, bit_of_or, bit_of_shr, bit_of_number, number_of_below}
@@ -14,7 +15,6 @@ use Rattle.dt_range.specs.Range.{range_holds, range_is_empty, range_mask, shares
 use Rattle.dt_pair.specs.declared.Pair.{Pair}
 use Rattle.dt_pair.specs.Ends.{has_bits, IsLeast, IsLeastFound, IsGreatest, IsGreatestFound}
 use Rattle.dt_pair.specs.Pair.{AreParts, both_hold, pair_holds, no_pair, ends, knowing, filled, least_of, greatest_of, with_ends, normal}
-use Rattle.dt_pair.specs.Laws.Splits.{shr_order}
 use Rattle.dt_pair.specs.Laws.Candidates.{has_bit}
 use Rattle.dt_pair.specs.Laws.Least.{AreWords, least_is}
 use Rattle.dt_pair.specs.Laws.Greatest.{greatest_is}
@@ -110,8 +110,8 @@ mask_fits w lo hi = cond_both (ltb hi lo) 0 (number_of w.0 (shares_from (ends w 
 -- all numbers between share it
 shared : (lo hi x i : ℕ) → lo ≤ x → x ≤ hi → lo / 2 ^ i ≡ hi / 2 ^ i → bit x i ≡ bit lo i
 shared lo hi x i l h e =
-    let a = shr_order lo x i l in
-    let b = shr_order x hi i h in
+    let a = quotient_le lo x i l in
+    let b = quotient_le x hi i h in
     let s : x / 2 ^ i ≡ lo / 2 ^ i = omega (arith, a, b, e) in
     let z : i + 0 ≡ i = omega arith in
     ap (bit x) (sym z) ∙ sym (bit_of_shr x i 0) ∙ ap (λ n. bit n 0) s ∙ bit_of_shr lo i 0 ∙ ap (bit lo) z

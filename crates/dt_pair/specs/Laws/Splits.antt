@@ -1,22 +1,10 @@
 -- A number split at a bit, and where two numbers part.
-use Rattle.std.proofs.Common.{◌≡◌, ℕ, zero, suc, ◌+◌, ◌*◌, ◌/◌, ◌%◌, ◌^◌, ◌<◌, ◌≤◌, Bool, true, false, cond, refl, sym, ap, ◌∙◌, subst, ⊎_elim, arith}
+use Rattle.std.proofs.Common.{◌≡◌, ℕ, zero, suc, ◌+◌, ◌*◌, ◌/◌, ◌%◌, ◌^◌, ◌<◌, ◌≤◌, Bool, true, false, cond, refl, sym, ◌∙◌, subst, ⊎_elim, arith}
 use Rattle.std.proofs.lemmas.Bool.{cases_eq}
-use Rattle.std.proofs.lemmas.Nat.{pow_pos, shr-shr, shr_split, le-div}
-use Rattle.std.proofs.Math.Nat.{pow-suc, div-mul-le_self, div-eq_of_lt}
+use Rattle.std.proofs.lemmas.Nat.{shr_split}
+use Rattle.dt_lemmas.proofs.Powers.{quotient_le, pow_next, shr_all}
 use Rattle.dt_bits.specs.Bits.{bit}
-use Rattle.dt_bits.proofs.BitLemmas.{at_bit}
-
--- the bits from i on are the bits above i and bit i
-pub upper_bits : (x i : ℕ) → x / 2 ^ i ≡ x / 2 ^ (i + 1) * 2 + cond (bit x i) 1 0
-upper_bits x i =
-    let h = x / 2 ^ i in
-    let e : h % 2 ≡ cond (bit x i) 1 0 = at_bit x i in
-    let s : h / 2 ^ 1 ≡ x / 2 ^ (i + 1) = shr-shr x i 1 in
-    let t : h / 2 ≡ x / 2 ^ (i + 1) = s in
-    omega (arith, e, t)
-
-pub pow_next : (i : ℕ) → 2 ^ (i + 1) ≡ 2 ^ i * 2
-pow_next i = let e : suc i ≡ i + 1 = omega arith in ap (λ n. 2 ^ n) (sym e) ∙ pow-suc 2 i ∙ omega arith
+use Rattle.dt_bits.proofs.BitLemmas.{upper_bits}
 
 parts : (x p q b h r : ℕ) → h * p + r ≡ x → h ≡ q * 2 + b → x ≡ q * (p * 2) + b * p + r
 parts x p q b h r e f = subst (λ h. h * p + r ≡ x → x ≡ q * (p * 2) + b * p + r) (sym f) (λ e. grind arith) e
@@ -33,10 +21,6 @@ split_low x i h = subst (λ b. x ≡ x / 2 ^ (i + 1) * 2 ^ (i + 1) + cond b 1 0 
 
 pub split_high : (x i : ℕ) → bit x i ≡ true → x ≡ x / 2 ^ (i + 1) * 2 ^ (i + 1) + 2 ^ i + x % 2 ^ i
 split_high x i h = subst (λ b. x ≡ x / 2 ^ (i + 1) * 2 ^ (i + 1) + cond b 1 0 * 2 ^ i + x % 2 ^ i) h (split_at x i) ∙ omega arith
-
--- shifted right, the order stays
-pub shr_order : (x y k : ℕ) → x ≤ y → x / 2 ^ k ≤ y / 2 ^ k
-shr_order x y k l = le-div (x / 2 ^ k) y (2 ^ k) (pow_pos k) (omega (arith, div-mul-le_self x (2 ^ k)))
 
 -- bit `at` is the highest in which x and y differ, and 1 in y
 pub record Parting (w x y : ℕ) : Type 0 where
@@ -59,13 +43,10 @@ parting_from x y (suc w) l e = ⊎_elim
     (λ (n : x / 2 ^ w ≡ y / 2 ^ w → ⊥).
     let c : suc w ≡ w + 1 = omega arith in
     let d : x / 2 ^ (w + 1) ≡ y / 2 ^ (w + 1) = subst (λ k. x / 2 ^ k ≡ y / 2 ^ k) c e in
-    let o : x / 2 ^ w ≤ y / 2 ^ w = shr_order x y w (omega arith) in
+    let o : x / 2 ^ w ≤ y / 2 ^ w = quotient_le x y w (omega arith) in
     let b = bits_order (bit x w) (bit y w) (omega (arith, upper_bits x w, upper_bits y w)) in
     record { at = w; below = omega arith; same = d; low = b.0; high = b.1 })
     (cases_eq (x / 2 ^ w) (y / 2 ^ w))
-
-shr_all : (x w : ℕ) → x < 2 ^ w → x / 2 ^ w ≡ 0
-shr_all x w h = div-eq_of_lt h
 
 -- the highest bit in which two numbers differ
 pub parting : (w x y : ℕ) → x < y → y < 2 ^ w → Parting w x y

@@ -1,4 +1,4 @@
--- A Pair in normal form is told by the numbers that it holds.
+-- A Pair in normal form is determined by the numbers that it holds.
 use Rattle.std.proofs.Common.{◌≡◌, ℕ, ◌≤◌, Bool, true, false, leb, bit_and, sym, ap, ◌∙◌, ⊎_elim, arith}
 use Rattle.std.proofs.lemmas.Bool.{cases_Bool, and_parts, leb-true, false≢true, true≢false}
 use Rattle.dt_bits.specs.declared.value.Width.{Width}
@@ -8,7 +8,7 @@ use Rattle.dt_known.specs.Laws.{known_laws}
 use Rattle.dt_range.specs.declared.Range.{Range}
 use Rattle.dt_range.specs.Range.{no_range}
 use Rattle.dt_pair.specs.declared.Pair.{Pair}
-use Rattle.dt_pair.specs.Pair.{IsPair, pair_holds, no_pair, AreEnds, HoldSame, IsTold}
+use Rattle.dt_pair.specs.Pair.{IsPair, pair_holds, no_pair, AreEnds, HoldSame, IsCanonical}
 use Rattle.dt_pair.specs.Laws.Form.{IsFilled, filled_or_not, filled_where}
 use Rattle.dt_pair.specs.Laws.Parts.{both_hold}
 use Rattle.dt_pair.specs.Laws.Varied.{same_mask}
@@ -76,7 +76,7 @@ same_known a b p q w s = by_cases (λ a b. a.known ≡ b.known) a b p q s
 pub ends_are : (a : Pair) → IsPair a → a.known.empty ≡ false → AreEnds a
 ends_are a p e = let f = filled_where a p e in record { low = f.low; high = f.high; between = λ x h. within a x h }
 
-pub told : (a : Pair) → IsPair a → IsTold a
-told a p b q w s =
+pub canonical : (a : Pair) → IsPair a → IsCanonical a
+canonical a p b q w s =
     let g : Known → Range → Pair = λ k r. record { known = k; range = r } in
     ap (λ k. g k b.range) (same_known b a q p w s) ∙ ap (g a.known) (same_range b a q p w s)

@@ -1,48 +1,40 @@
 -- In a Pair in normal form the known bits are those on which all held numbers agree: of a bit that isn't known, both values occur.
-use Rattle.std.proofs.Common.{◌≡◌, ℕ, ◌+◌, ◌-◌, ◌*◌, ◌/◌, ◌%◌, ◌^◌, ◌<◌, ◌≤◌, Bool, true, false, ◌&&◌, ◌||◌, cond, ltb, eqb, bit_and, bit_or, refl, sym, ap, ◌∙◌, subst, ⊎_elim, arith}
-use Rattle.std.proofs.lemmas.Bool.{cases_Bool, and_parts, and_from, cond-true, cond-false, eqb-true, eqb-false, eq-eqb, le-leb, lt-ltb, le-ltb, or_right, true≢false, false≢true, ltb-true, cases_eq, cases_lt, cases_order}
-use Rattle.std.proofs.lemmas.Nat.{pow_pos, shr_split, mod_below, and_le_r}
-use Rattle.std.proofs.Math.Nat.{mul-le-mul_right}
+use Rattle.std.proofs.Common.{◌≡◌, ℕ, ◌+◌, ◌-◌, ◌*◌, ◌/◌, ◌%◌, ◌^◌, ◌<◌, ◌≤◌, Bool, true, false, ◌&&◌, ◌||◌, cond, ltb, bit_and, refl, sym, ap, ◌∙◌, subst, ⊎_elim, arith}
+use Rattle.std.proofs.lemmas.Bool.{and_from, cond-true, cond-false, eqb-true, eq-eqb, le-leb, lt-ltb, le-ltb, or_right, true≢false, cases_eq, cases_lt}
+use Rattle.std.proofs.lemmas.Nat.{pow_pos, mod_below, and_le_r}
+use Rattle.dt_lemmas.proofs.Powers.{quotient_le, pow_next, odd_above, step_between}
 use Rattle.dt_bits.specs.Bits.{bit}
 use Rattle.dt_bits.specs.declared.value.Width.{Width}
-use Rattle.dt_bits.proofs.BitLemmas.{same_bits, bit_of_and, bit_of_mod, bit_of_joined, bit_of_ones, bit_of_shr, bit_above}
-use Rattle.dt_known.specs.declared.Known.{Known}
+use Rattle.dt_bits.proofs.BitLemmas.{same_bits, bit_of_and, bit_of_mod, bit_of_joined, bit_of_ones, bit_of_shr, bit_above, bit_of_odd, upper_bits}
 use Rattle.dt_known.specs.Known.{known_holds}
 use Rattle.dt_known.specs.Laws.Bits.{held_is}
 use Rattle.dt_range.specs.declared.Range.{Range}
-use Rattle.dt_range.specs.Range.{range_holds, range_is_empty, range_mask, shares_from}
+use Rattle.dt_range.specs.Range.{range_holds, range_mask}
 use Rattle.dt_range.specs.Laws.KnownBits.{mask_bit as shared_bit}
 use Rattle.dt_pair.specs.declared.Pair.{Pair}
-use Rattle.dt_pair.specs.Ends.{has_bits}
-use Rattle.dt_pair.specs.Pair.{IsPair, pair_holds, ends, knowing, filled, normal}
-use Rattle.dt_pair.specs.Laws.Splits.{split_low, split_high, upper_bits, shr_order, pow_next}
+use Rattle.dt_pair.specs.Pair.{IsPair, pair_holds, ends, filled}
+use Rattle.dt_pair.specs.Laws.Splits.{split_low, split_high}
 use Rattle.dt_pair.specs.Laws.Candidates.{has_bit}
 use Rattle.dt_pair.specs.Laws.Normal.{mask_bit}
 use Rattle.dt_pair.specs.Laws.Form.{IsFilled, normal_again, held_bits}
 
 -- ---- a number with one more bit
 
-one_above : (q p r : ℕ) → q * (p * 2) + p + r ≡ (q * 2 ^ 1 + 1) * p + r
-one_above q p r = grind arith
-
 -- z and 2 ^ i, where bit i of z is 0
 raised_form : (z i : ℕ) → bit z i ≡ false → z + 2 ^ i ≡ (z / 2 ^ (i + 1) * 2 ^ 1 + 1) * 2 ^ i + z % 2 ^ i
 raised_form z i h =
     let s : z ≡ z / 2 ^ (i + 1) * 2 ^ (i + 1) + z % 2 ^ i = split_low z i h in
     let t : z + 2 ^ i ≡ z / 2 ^ (i + 1) * 2 ^ (i + 1) + 2 ^ i + z % 2 ^ i = omega (arith, s) in
-    t ∙ ap (λ p. z / 2 ^ (i + 1) * p + 2 ^ i + z % 2 ^ i) (pow_next i) ∙ one_above (z / 2 ^ (i + 1)) (2 ^ i) (z % 2 ^ i)
+    t ∙ ap (λ p. z / 2 ^ (i + 1) * p + 2 ^ i + z % 2 ^ i) (pow_next i) ∙ odd_above (z / 2 ^ (i + 1)) (2 ^ i) (z % 2 ^ i)
 
 raised_bits : (z i j : ℕ) → bit z i ≡ false → bit (z + 2 ^ i) j ≡ cond (ltb j i) (bit (z % 2 ^ i) j) (bit (z / 2 ^ (i + 1) * 2 ^ 1 + 1) (j - i))
 raised_bits z i j h = ap (λ n. bit n j) (raised_form z i h) ∙ bit_of_joined (z / 2 ^ (i + 1) * 2 ^ 1 + 1) i (z % 2 ^ i) j (mod_below z (2 ^ i) (pow_pos i))
-
-odd : (q k : ℕ) → bit (q * 2 ^ 1 + 1) k ≡ cond (ltb k 1) (bit 1 k) (bit q (k - 1))
-odd q k = bit_of_joined q 1 1 k (omega arith)
 
 raised_here : (z i : ℕ) → bit z i ≡ false → bit (z + 2 ^ i) i ≡ true
 raised_here z i h =
     let e : i - i ≡ 0 = omega arith in
     raised_bits z i i h ∙ cond-false (ltb i i) _ _ (le-ltb i i (omega arith))
-    ∙ ap (bit (z / 2 ^ (i + 1) * 2 ^ 1 + 1)) e ∙ odd (z / 2 ^ (i + 1)) 0 ∙ bit_of_ones 1 0 (omega arith)
+    ∙ ap (bit (z / 2 ^ (i + 1) * 2 ^ 1 + 1)) e ∙ bit_of_odd (z / 2 ^ (i + 1)) 0 ∙ bit_of_ones 1 0 (omega arith)
 
 raised_below : (z i j : ℕ) → bit z i ≡ false → j < i → bit (z + 2 ^ i) j ≡ bit z j
 raised_below z i j h l = raised_bits z i j h ∙ cond-true (ltb j i) _ _ (lt-ltb j i l) ∙ bit_of_mod z i j l
@@ -51,7 +43,7 @@ raised_above : (z i j : ℕ) → bit z i ≡ false → i < j → bit (z + 2 ^ i)
 raised_above z i j h l =
     let e : i + 1 + (j - i - 1) ≡ j = omega arith in
     raised_bits z i j h ∙ cond-false (ltb j i) _ _ (le-ltb j i (omega arith))
-    ∙ odd (z / 2 ^ (i + 1)) (j - i) ∙ cond-false (ltb (j - i) 1) _ _ (le-ltb (j - i) 1 (omega arith))
+    ∙ bit_of_odd (z / 2 ^ (i + 1)) (j - i) ∙ cond-false (ltb (j - i) 1) _ _ (le-ltb (j - i) 1 (omega arith))
     ∙ bit_of_shr z (i + 1) (j - i - 1) ∙ ap (bit z) e
 
 and_none : (p q : Bool) → (p && false) ≡ (q && false)
@@ -85,16 +77,6 @@ lowered x i h =
 
 -- ---- two ends that part above bit i, and have the same value there
 
-apart : (lo hi i : ℕ) → lo / 2 ^ i + 2 ≤ hi / 2 ^ i → lo + 2 ^ i ≤ hi
-apart lo hi i h =
-    let p = 2 ^ i in
-    let a : lo / p * p + lo % p ≡ lo = shr_split lo i in
-    let b : hi / p * p + hi % p ≡ hi = shr_split hi i in
-    let l : lo % p < p = mod_below lo p (pow_pos i) in
-    let m : (lo / p + 2) * p ≤ hi / p * p = mul-le-mul_right p h in
-    let d : (lo / p + 2) * p ≡ lo / p * p + p + p = grind arith in
-    omega (arith, a, b, l, m, d)
-
 same_parity : (p : Bool) (a b x y : ℕ) → x ≡ a * 2 + cond p 1 0 → y ≡ b * 2 + cond p 1 0 → x ≤ y → (x ≡ y → ⊥) → x + 2 ≤ y
 same_parity true a b x y e f l n = omega arith
 same_parity false a b x y e f l n = omega arith
@@ -103,7 +85,7 @@ far : (lo hi i : ℕ) (p : Bool) → bit lo i ≡ p → bit hi i ≡ p → lo �
 far lo hi i p e f l n =
     let u : lo / 2 ^ i ≡ lo / 2 ^ (i + 1) * 2 + cond p 1 0 = subst (λ b. lo / 2 ^ i ≡ lo / 2 ^ (i + 1) * 2 + cond b 1 0) e (upper_bits lo i) in
     let v : hi / 2 ^ i ≡ hi / 2 ^ (i + 1) * 2 + cond p 1 0 = subst (λ b. hi / 2 ^ i ≡ hi / 2 ^ (i + 1) * 2 + cond b 1 0) f (upper_bits hi i) in
-    apart lo hi i (same_parity p (lo / 2 ^ (i + 1)) (hi / 2 ^ (i + 1)) (lo / 2 ^ i) (hi / 2 ^ i) u v (shr_order lo hi i l) n)
+    step_between lo hi i (same_parity p (lo / 2 ^ (i + 1)) (hi / 2 ^ (i + 1)) (lo / 2 ^ i) (hi / 2 ^ i) u v (quotient_le lo hi i l) n)
 
 -- ---- both values of a bit occur
 

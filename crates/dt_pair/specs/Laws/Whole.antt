@@ -1,9 +1,10 @@
 -- All numbers, and one number: these Pairs are in normal form.
-use Rattle.std.proofs.Common.{◌≡◌, ℕ, ◌-◌, ◌/◌, ◌^◌, ◌<◌, ◌≤◌, Bool, true, false, ◌&&◌, ◌||◌, eqb, bit_and, refl, sym, ap, ◌∙◌, arith}
-use Rattle.std.proofs.lemmas.Bool.{eq-eqb, ne_eqb, false≢true}
-use Rattle.std.proofs.lemmas.Nat.{pow_pos, and_mask, le-div, pow_below}
+use Rattle.std.proofs.Common.{◌≡◌, ℕ, ◌-◌, ◌^◌, ◌<◌, Bool, true, false, ◌&&◌, ◌||◌, bit_and, refl, sym, ap, ◌∙◌, arith}
+use Rattle.std.proofs.lemmas.Bool.{eq-eqb, false≢true}
+use Rattle.std.proofs.lemmas.Nat.{and_mask}
 use Rattle.std.proofs.Math.Nat.{mod-eq_of_lt}
 use Rattle.std.specs.Int.Bits.{and_zero_r}
+use Rattle.dt_lemmas.proofs.Powers.{no_shared}
 use Rattle.dt_bits.specs.Bits.{IsWidth, IsValue, bit}
 use Rattle.dt_bits.specs.declared.value.Bv.{Bv}
 use Rattle.dt_bits.specs.declared.value.Width.{Width}
@@ -39,12 +40,6 @@ knowing_still k lo hi p f h s =
     (λ i l. value_bit k lo hi i ∙ value_still (bit k.mask i) (bit k.value i) (bit lo i) (bit e i) (s i l) (has_bit k.mask k.value lo i h)) in
     let g : ℕ → ℕ → Bool → Known = λ m v e. record { mask = m; value = v; width = k.width; empty = e } in
     ap (λ m. g m q.value false) m ∙ ap (λ v. g k.mask v false) v ∙ ap (g k.mask k.value) (sym f)
-
-no_shared : (w i : ℕ) → i < w → eqb (0 / 2 ^ i) ((2 ^ w - 1) / 2 ^ i) ≡ false
-no_shared w i l =
-    let a : 2 ^ i < 2 ^ w = pow_below i w l in
-    let b : 1 ≤ (2 ^ w - 1) / 2 ^ i = le-div 1 (2 ^ w - 1) (2 ^ i) (pow_pos i) (omega arith) in
-    ne_eqb (0 / 2 ^ i) ((2 ^ w - 1) / 2 ^ i) (λ e. let z : 0 / 2 ^ i ≡ 0 = omega (arith, pow_pos i) in absurd (omega (arith, b, z, e)))
 
 pub full_is : (w : Width) → IsWidth w.0 → IsRange (range_full w) → IsPair (pair_full w)
 full_is w h r =

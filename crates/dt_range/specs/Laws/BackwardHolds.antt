@@ -1,20 +1,22 @@
 -- The tables of backward hold each operand that gives a held result.
 use Rattle.std.proofs.Common.{◌≡◌, ℕ, zero, suc, ◌+◌, ◌-◌, ◌*◌, ◌/◌, ◌%◌, ◌^◌, ◌<◌, ◌≤◌, Bool, true, false, ◌&&◌, cond, eqb, ltb, leb, refl, sym, ap, ◌∙◌, subst, ⊎_elim, lit<, arith}
-use Rattle.std.proofs.lemmas.Bool.{cases_lt, cond_both, and_parts, eqb-true, eqb-false, leb-true, ltb-true, ltb-false, eq-eqb, false≢true}
+use Rattle.std.proofs.lemmas.Bool.{cases_lt, and_parts, eqb-true, eqb-false, leb-true, ltb-true, ltb-false, false≢true}
 use Rattle.std.proofs.lemmas.Nat.{pow_pos, and_le_l, and_le_r, le_or_l, le_or_r, mod_below, shr_high, mod_low, div-add-mod', shr_below}
 use Rattle.std.proofs.Math.Nat.{mod-eq_of_lt, mul-le-mul_right}
+use Rattle.dt_lemmas.proofs.Powers.{quotient_le}
+use Rattle.dt_lemmas.proofs.Numbers.{eqb_turned}
+use Rattle.dt_lemmas.proofs.Booleans.{small_is}
 use Rattle.dt_bits.specs.Bits.{width}
 use Rattle.dt_bits.specs.declared.op.Op.{Op}
 use Rattle.dt_bits.specs.declared.op.Op.TheVariants.{Const, Not, And, Or, Xor, Add, Sub, Slice, Concat, SignExt, Shl, Shr, Eq, Ltu, Ite}
 use Rattle.dt_bits.specs.declared.value.Width.{Width}
-use Rattle.dt_bits.proofs.Moduli.{sub_of_add, add_of_sub, sub_of_sub}
+use Rattle.dt_lemmas.proofs.Moduli.{sub_of_add, add_of_sub, sub_of_sub, remainder_le}
 use Rattle.dt_domain.specs.Domain.{FittingAt, HoldUsed, value_at, operand}
 use Rattle.dt_range.specs.declared.Range.{Range}
 use Rattle.dt_range.specs.Range.{is_single, range_holds, no_range, range_between, range_full, range_meet, largest}
 use Rattle.dt_range.specs.Forward.{flag, not_range, sum_range, difference_range}
 use Rattle.dt_range.specs.Backward.{is_value, without, eq_back, below_some, ltu_first, ltu_second, are_apart, test_back, backward_table}
 use Rattle.dt_range.specs.Ops.{range_ops}
-use Rattle.dt_range.specs.Laws.Numbers.{div_le, mod_le}
 use Rattle.dt_range.specs.Laws.Between.{Held, held, held_is, held_full, held_below, between_holds, full_holds, either_holds, flag_holds}
 use Rattle.dt_range.specs.Laws.Meets.{meet_holds}
 use Rattle.dt_range.specs.Laws.ForwardHolds.{alike, not_holds, sum_holds, difference_holds}
@@ -46,8 +48,8 @@ slice_holds r w x hi lo o f h = either_holds (eqb (hi + 1) w.0) _ (range_full w)
 high_holds : (r : Range) (w : Width) (x y k : ℕ) → y < 2 ^ k → Held r (x * 2 ^ k + y) → range_holds (range_between w (r.lo / 2 ^ k) (r.hi / 2 ^ k)) x ≡ true
 high_holds r w x y k l h =
     let e = shr_high x k y l in
-    let p = div_le r.lo (x * 2 ^ k + y) k h.above in
-    let q = div_le (x * 2 ^ k + y) r.hi k h.below in
+    let p = quotient_le r.lo (x * 2 ^ k + y) k h.above in
+    let q = quotient_le (x * 2 ^ k + y) r.hi k h.below in
     between_holds w (r.lo / 2 ^ k) (r.hi / 2 ^ k) x (omega arith) (omega arith)
 
 low_holds : (r : Range) (w : Width) (x y : ℕ) → y < 2 ^ w.0 → Held r (x * 2 ^ w.0 + y)
@@ -57,10 +59,10 @@ low_holds r w x y l h =
     let d = mod_low x w.0 y l in
     either_holds (eqb (r.lo / 2 ^ w.0) (r.hi / 2 ^ w.0)) _ (range_full w) y
     (λ t. let e = eqb-true _ _ t in
-    let a = div_le r.lo n w.0 h.above in
-    let b = div_le n r.hi w.0 h.below in
-    let p = mod_le r.lo n (2 ^ w.0) h.above (omega arith) in
-    let q = mod_le n r.hi (2 ^ w.0) h.below (omega arith) in
+    let a = quotient_le r.lo n w.0 h.above in
+    let b = quotient_le n r.hi w.0 h.below in
+    let p = remainder_le r.lo n (2 ^ w.0) h.above (omega arith) in
+    let q = remainder_le n r.hi (2 ^ w.0) h.below (omega arith) in
     between_holds w (r.lo % 2 ^ w.0) (r.hi % 2 ^ w.0) y (omega arith) (omega arith))
     (λ _. full_holds w y l)
 
@@ -119,12 +121,6 @@ ltu_second_holds r a b x y g h k t = either_holds (is_value r 1) (range_between 
 not_apart : (a b : Range) (x : ℕ) → Held a x → Held b x → are_apart a b ≡ false
 not_apart a b x h k = held_full (range_meet a b) x (held (range_meet a b) x (meet_holds a b x h k))
 
-small_is : (x : ℕ) → x < 2 → cond (eqb x 1) 1 0 ≡ x
-small_is x h = cond_both (eqb x 1) 1 0 (λ n. n ≡ x) (λ e. sym (eqb-true _ _ e)) (λ e. let n = eqb-false _ _ e in let t : x ≡ 1 → ⊥ = n in small x h t)
-  where
-    small : (x : ℕ) → x < 2 → (x ≡ 1 → ⊥) → 0 ≡ x
-    small x h n = grind arith
-
 pub test_holds : (r b c : Range) (x y z : ℕ) → x < 2 → Held b y → Held c z → Held r (cond (eqb x 1) y z) → range_holds (test_back r b c) x ≡ true
 test_holds r b c x y z f k l t = held_as (test_back r b c) (cond (eqb x 1) 1 0) x (small_is x f) (by_choice (eqb x 1) t)
   where
@@ -170,14 +166,6 @@ sum_back : (a b : Range) (x w p q : ℕ) → a.width.0 ≡ w → Held a p → He
 sum_back a b x w p q e h k l m s =
     held_as (sum_range a b) ((p + q) % 2 ^ a.width.0) x (ap (λ n. (p + q) % 2 ^ n) e ∙ s)
     (sum_holds a b p q h k (subst (λ n. p < 2 ^ n) (sym e) l) (subst (λ n. q < 2 ^ n) (sym e) m))
-
-turned : (x y : ℕ) → eqb x y ≡ eqb y x
-turned x y = cond_turn (eqb x y) (eqb y x) (λ e. eq-eqb y x (sym (eqb-true x y e))) (λ e. eq-eqb x y (sym (eqb-true y x e)))
-  where
-    cond_turn : (p q : Bool) → (p ≡ true → q ≡ true) → (q ≡ true → p ≡ true) → p ≡ q
-    cond_turn true q h k = sym (h refl)
-    cond_turn false true h k = k refl
-    cond_turn false false h k = refl
 
 -- what the table gives holds the operand
 pub table_holds : (op : Op) (k : ℕ) (r a b c : Range) (x y z : ℕ) → FittingAt range_ops op k r a b c → HoldUsed range_ops op a b c x y z
@@ -263,7 +251,7 @@ table_holds Eq zero r a b c x y z f u t =
     eq_holds r a b x y (held_below a x f.operands.a_is h) h (held b y (u.second (lit< tt))) t
 table_holds Eq (suc zero) r a b c x y z f u t =
     let k = held b y (u.second (lit< tt)) in
-    eq_holds r b a y x (held_below b y f.operands.b_is k) k (held a x (u.first (lit< tt))) (subst (λ v. Held r (cond v 1 0)) (turned x y) t)
+    eq_holds r b a y x (held_below b y f.operands.b_is k) k (held a x (u.first (lit< tt))) (subst (λ v. Held r (cond v 1 0)) (eqb_turned x y) t)
 table_holds Eq (suc (suc k)) r a b c x y z f u t = absurd (omega (arith, f.place))
 table_holds Ltu zero r a b c x y z f u t =
     let h = held a x (u.first (lit< tt)) in

@@ -1,7 +1,8 @@
 -- What a range between two ends holds, and that it is valid.
 use Rattle.std.proofs.Common.{◌≡◌, ℕ, ◌^◌, ◌<◌, ◌≤◌, Bool, true, false, cond, leb, refl, arith, lit<, lit≤}
 use Rattle.std.proofs.lemmas.Bool.{cond_both, and_parts, and_from, leb-true, leb-false, le-leb, le-ltb}
-use Rattle.std.proofs.lemmas.Nat.{pow_pos, pow_below}
+use Rattle.std.proofs.lemmas.Nat.{pow_pos}
+use Rattle.dt_lemmas.proofs.Powers.{one_below}
 use Rattle.dt_bits.specs.Bits.{IsWidth, IsValue, width}
 use Rattle.dt_bits.specs.declared.value.Bv.{Bv}
 use Rattle.dt_bits.specs.declared.value.Width.{Width}
@@ -55,11 +56,8 @@ IsOf w r = IsRange r × (r.width ≡ w)
 pub either_is : (b : Bool) (w : Width) (r s : Range) → (b ≡ true → IsOf w r) → (b ≡ false → IsOf w s) → IsOf w (cond b r s)
 either_is b w r s h k = cond_both b r s (IsOf w) h k
 
-above_one : (w : ℕ) → 1 ≤ w → 1 < 2 ^ w
-above_one w h = pow_below 0 w (omega arith)
-
 pub no_range_is : (w : Width) → IsWidth w.0 → IsOf w (no_range w)
-no_range_is w h = (record { width = h; lo_fits = above_one w.0 h.0; hi_fits = pow_pos w.0; empty = λ _. (refl, refl) }, refl)
+no_range_is w h = (record { width = h; lo_fits = one_below w.0 h.0; hi_fits = pow_pos w.0; empty = λ _. (refl, refl) }, refl)
 
 pub between_is : (w : Width) (lo hi : ℕ) → IsWidth w.0 → hi < 2 ^ w.0 → IsOf w (range_between w lo hi)
 between_is w lo hi h l = cond_both (leb lo hi) (let r : Range = record { lo = lo; hi = hi; width = w } in r) (no_range w) (IsOf w)

@@ -1,8 +1,9 @@
 -- Forward and backward make ranges of the right widths, and hold what they must.
-use Rattle.std.proofs.Common.{◌≡◌, ℕ, zero, suc, ◌+◌, ◌-◌, ◌*◌, ◌/◌, ◌%◌, ◌^◌, ◌<◌, ◌≤◌, Bool, true, false, not, ◌&&◌, ◌||◌, cond, eqb, ltb, leb, refl, sym, ap, ◌∙◌, subst, min, max, arith}
+use Rattle.std.proofs.Common.{◌≡◌, ℕ, zero, suc, ◌+◌, ◌-◌, ◌*◌, ◌/◌, ◌%◌, ◌^◌, ◌<◌, Bool, true, false, not, ◌&&◌, ◌||◌, cond, eqb, ltb, leb, refl, sym, ap, ◌∙◌, subst, min, max, arith}
 use Rattle.std.proofs.lemmas.Bool.{cond-true, cond-false, and_parts, and_from, or_from, ltb-true, leb-true, eqb-true, eq-eqb, false≢true}
-use Rattle.std.proofs.lemmas.Nat.{pow_pos, pow-add, mod_below, shr_below}
-use Rattle.std.proofs.Math.Nat.{mul-le-mul_right}
+use Rattle.std.proofs.lemmas.Nat.{pow_pos, mod_below, shr_below}
+use Rattle.dt_lemmas.proofs.Powers.{largest_shifted, spread_fits}
+use Rattle.dt_lemmas.proofs.Booleans.{not_or_where, not_or_then}
 use Rattle.dt_bits.specs.Bits.{IsWidth, IsValue, width}
 use Rattle.dt_bits.specs.Ops.{arity_of, value_of, applied}
 use Rattle.dt_bits.specs.declared.op.Op.{Op}
@@ -15,39 +16,19 @@ use Rattle.dt_range.specs.Range.{IsRange, is_single, range_is_empty, no_range, r
 use Rattle.dt_range.specs.Forward.{low_end, high_end, width_after, both_ends, not_range, sum_range, difference_range, are_disjoint, flag, range_hull, top_bit, forward_table, is_used, some_used_empty, all_used_single, range_forward}
 use Rattle.dt_range.specs.Backward.{is_value, without, eq_back, below_some, ltu_first, ltu_second, are_apart, test_back, backward_table, range_backward}
 use Rattle.dt_range.specs.Ops.{range_ops}
-use Rattle.dt_range.specs.Laws.Numbers.{largest_shifted}
 use Rattle.dt_range.specs.Laws.Between.{Held, held, held_full, IsOf, either_is, no_range_is, between_is, full_is, one_is, flag_is, bit_width, either_holds, one_of_holds}
-use Rattle.dt_range.specs.Laws.Values.{value_used, value_fits, result_is_width}
+use Rattle.dt_bits.proofs.Operators.{value_used, value_fits, result_is_width, none_used}
 use Rattle.dt_range.specs.Laws.KnownBits.{all_single, one_all}
 use Rattle.dt_range.specs.Laws.ForwardHolds as Forward
 use Rattle.dt_range.specs.Laws.BackwardHolds as Backward
 
 -- ---- the operands that are used
 
-unused : (t e : Bool) → (t ≡ true → e ≡ false) → (t && e) ≡ false
-unused true e h = h refl
-unused false e h = refl
-
-single_if : (t s : Bool) → (t ≡ true → s ≡ true) → (not t || s) ≡ true
-single_if true s h = h refl
-single_if false s h = refl
-
-single_used : (t s : Bool) → (not t || s) ≡ true → t ≡ true → s ≡ true
-single_used true s h e = h
-single_used false s h e = absurd (false≢true e)
-
 used : (k n : ℕ) → k < n → ltb k n ≡ true
 used k n h = grind arith
 
-none_used_empty : (op : Op) (a b c : Range) → (0 < arity_of op → range_is_empty a ≡ false) → (1 < arity_of op → range_is_empty b ≡ false) → (2 < arity_of op → range_is_empty c ≡ false)
-    → some_used_empty op a b c ≡ false
-none_used_empty op a b c p q r =
-    or_from (is_used op 0 && range_is_empty a) _ (unused (is_used op 0) (range_is_empty a) (λ e. p (ltb-true _ _ e)))
-    (or_from (is_used op 1 && range_is_empty b) (is_used op 2 && range_is_empty c) (unused (is_used op 1) (range_is_empty b) (λ e. q (ltb-true _ _ e)))
-    (unused (is_used op 2) (range_is_empty c) (λ e. r (ltb-true _ _ e))))
-
 held_not_empty : (op : Op) (a b c : Range) (x y z : ℕ) → HoldUsed range_ops op a b c x y z → some_used_empty op a b c ≡ false
-held_not_empty op a b c x y z u = none_used_empty op a b c
+held_not_empty op a b c x y z u = none_used op (range_is_empty a) (range_is_empty b) (range_is_empty c)
     (λ l. held_full a x (held a x (u.first l))) (λ l. held_full b y (held b y (u.second l))) (λ l. held_full c z (held c z (u.third l)))
 
 -- ---- validity
@@ -153,9 +134,9 @@ single_value op a b c x y z e u =
     let p = and_parts (not (is_used op 0) || is_single a) _ e in
     let q = and_parts (not (is_used op 1) || is_single b) (not (is_used op 2) || is_single c) p.1 in
     value_used op _ _ _ _ _ _
-    (λ l. only a x (single_used (is_used op 0) (is_single a) p.0 (used 0 (arity_of op) l)) (held a x (u.first l)))
-    (λ l. only b y (single_used (is_used op 1) (is_single b) q.0 (used 1 (arity_of op) l)) (held b y (u.second l)))
-    (λ l. only c z (single_used (is_used op 2) (is_single c) q.1 (used 2 (arity_of op) l)) (held c z (u.third l)))
+    (λ l. only a x (not_or_then (is_used op 0) (is_single a) p.0 (used 0 (arity_of op) l)) (held a x (u.first l)))
+    (λ l. only b y (not_or_then (is_used op 1) (is_single b) q.0 (used 1 (arity_of op) l)) (held b y (u.second l)))
+    (λ l. only c z (not_or_then (is_used op 2) (is_single c) q.1 (used 2 (arity_of op) l)) (held c z (u.third l)))
 
 pub forward_holds : (op : Op) (a b c : Range) (x y z : ℕ) → Fitting range_ops op a b c → HoldUsed range_ops op a b c x y z
     → Holds range_ops (range_forward op a b c) (value_at range_ops op a b c x y z)
@@ -173,11 +154,11 @@ known_single a p h = eq-eqb a.lo a.hi (all_single a p.width.0 h)
 
 pub forward_known : (op : Op) (a b c : Range) → Fitting range_ops op a b c → AreUsedKnown range_ops op a b c → IsAllKnown range_ops (range_forward op a b c)
 forward_known op a b c f u =
-    let e = none_used_empty op a b c (λ l. (u.first l).0) (λ l. (u.second l).0) (λ l. (u.third l).0) in
-    let s = and_from (not (is_used op 0) || is_single a) _ (single_if (is_used op 0) (is_single a) (λ t. known_single a f.a_is (u.first (ltb-true _ _ t))))
+    let e = none_used op (range_is_empty a) (range_is_empty b) (range_is_empty c) (λ l. (u.first l).0) (λ l. (u.second l).0) (λ l. (u.third l).0) in
+    let s = and_from (not (is_used op 0) || is_single a) _ (not_or_where (is_used op 0) (is_single a) (λ t. known_single a f.a_is (u.first (ltb-true _ _ t))))
     (and_from (not (is_used op 1) || is_single b) (not (is_used op 2) || is_single c)
-    (single_if (is_used op 1) (is_single b) (λ t. known_single b f.b_is (u.second (ltb-true _ _ t))))
-    (single_if (is_used op 2) (is_single c) (λ t. known_single c f.c_is (u.third (ltb-true _ _ t))))) in
+    (not_or_where (is_used op 1) (is_single b) (λ t. known_single b f.b_is (u.second (ltb-true _ _ t))))
+    (not_or_where (is_used op 2) (is_single c) (λ t. known_single c f.c_is (u.third (ltb-true _ _ t))))) in
     let v = applied op (low_end a) (low_end b) (low_end c) in
     subst (IsAllKnown range_ops)
     (sym (cond-false (some_used_empty op a b c) (no_range (width_after op a b c)) _ e ∙ cond-true (all_used_single op a b c) (range_one v) (forward_table op a b c) s))
@@ -196,13 +177,6 @@ operand_full k a b c p q r = full_is (operand k a b c).width (operand_width k a 
 -- a range of the width w, as one of the width v
 of_as : (v w : Width) (r : Range) → w ≡ v → IsOf w r → IsOf v r
 of_as v w r e h = subst (λ n. IsOf n r) e h
-
--- the numbers whose quotient is at most r, which is below 2 ^ n
-spread_fits : (r n k w : ℕ) → r < 2 ^ n → n + k ≡ w → r * 2 ^ k + 2 ^ k - 1 < 2 ^ w
-spread_fits r n k w h e =
-    let p : (r + 1) * 2 ^ k ≤ 2 ^ n * 2 ^ k = mul-le-mul_right (2 ^ k) (let u : r + 1 ≤ 2 ^ n = omega arith in u) in
-    let q : 2 ^ n * 2 ^ k ≡ 2 ^ w = sym (pow-add 2 n k) ∙ ap (λ m. 2 ^ m) e in
-    omega (arith, pow_pos k)
 
 without_is : (a : Range) (c : ℕ) → IsRange a → IsOf a.width (without a c)
 without_is a c p = either_is (eqb a.lo c) a.width (range_between a.width (c + 1) a.hi) _

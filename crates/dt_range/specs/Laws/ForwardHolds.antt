@@ -1,8 +1,10 @@
 -- The tables of forward hold the operator's value of all held operands.
-use Rattle.std.proofs.Common.{◌≡◌, ℕ, ◌+◌, ◌-◌, ◌*◌, ◌/◌, ◌%◌, ◌^◌, ◌<◌, ◌≤◌, Bool, true, false, cond, eqb, ltb, leb, bit_and, bit_or, bit_xor, sym, ap, ◌∙◌, subst, ⊎_elim, min, max, lit<, arith}
+use Rattle.std.proofs.Common.{◌≡◌, ℕ, ◌+◌, ◌-◌, ◌*◌, ◌/◌, ◌%◌, ◌^◌, ◌<◌, ◌≤◌, Bool, true, false, cond, eqb, ltb, leb, bit_and, bit_or, bit_xor, sym, ◌∙◌, subst, ⊎_elim, min, max, lit<, arith}
 use Rattle.std.proofs.lemmas.Bool.{and_parts, or_cases, eqb-true, leb-true, ltb-true, lt-ltb, le-ltb, ne_eqb}
 use Rattle.std.proofs.lemmas.Nat.{pow_pos, and_le_l, and_le_r, or_lt, xor_lt, le_or_l, le_or_r, mod_below}
-use Rattle.std.proofs.Math.Nat.{mod-eq_of_lt, mul-le-mul_right, add-mod_left}
+use Rattle.std.proofs.Math.Nat.{mod-eq_of_lt, mul-le-mul_right}
+use Rattle.dt_lemmas.proofs.Powers.{quotient_le, quotient_between, part_le, joined_le, extended_le, extended_fits, flag_fits}
+use Rattle.dt_lemmas.proofs.Moduli.{mod_once}
 use Rattle.dt_bits.specs.Bits.{width}
 use Rattle.dt_bits.specs.declared.op.Op.{Op}
 use Rattle.dt_bits.specs.declared.op.Op.TheVariants.{Const, Not, And, Or, Xor, Add, Sub, Slice, Concat, SignExt, Shl, Shr, Eq, Ltu, Ite}
@@ -11,8 +13,6 @@ use Rattle.dt_range.specs.declared.Range.{Range}
 use Rattle.dt_range.specs.Range.{IsRange, is_single, range_holds, range_between, range_full, largest}
 use Rattle.dt_range.specs.Forward.{width_after, both_ends, not_range, sum_range, difference_range, flag, are_disjoint, range_hull, top_bit, forward_table}
 use Rattle.dt_range.specs.Ops.{range_ops}
-use Rattle.dt_range.specs.Laws.Numbers.{div_le, div_between, part_le, reaches_alike, joined_le}
-use Rattle.dt_range.specs.Laws.Values.{flag_fits, sign_fits}
 use Rattle.dt_range.specs.Laws.Between.{Held, held, held_is, held_below, between_holds, full_holds, either_holds, flag_holds}
 
 -- b's number fits a's width, where the widths are equal
@@ -21,13 +21,6 @@ alike a b y p h e = subst (λ w. y < 2 ^ w) (sym (eqb-true _ _ e)) (held_below b
 
 pub not_holds : (a : Range) (x : ℕ) → Held a x → range_holds (not_range a) (2 ^ a.width.0 - 1 - x) ≡ true
 not_holds a x h = between_holds a.width (largest a.width - a.hi) (largest a.width - a.lo) _ (omega (arith, h.below)) (omega (arith, h.above))
-
--- s between m and 2 m
-mod_once : (s m : ℕ) → m ≤ s → s < m + m → s % m ≡ s - m
-mod_once s m h l =
-    let e : m + (s - m) ≡ s = omega arith in
-    let t : s - m < m = omega arith in
-    ap (λ n. n % m) (sym e) ∙ add-mod_left m (s - m) ∙ mod-eq_of_lt t
 
 pub sum_holds : (a b : Range) (x y : ℕ) → Held a x → Held b y → x < 2 ^ a.width.0 → y < 2 ^ a.width.0 → range_holds (sum_range a b) ((x + y) % 2 ^ a.width.0) ≡ true
 sum_holds a b x y h k f g =
@@ -59,16 +52,6 @@ difference_holds a b x y h k f g =
     let s : n ≡ x + m - y = mod-eq_of_lt (let u : x + m - y < m = omega (arith, h.below, k.above) in u) in
     between_holds a.width (a.lo + m - b.hi) (a.hi + m - b.lo) n (omega (arith, h.above, k.below)) (omega (arith, h.below, k.above)))
     (λ _. full_holds a.width n (mod_below (x + m - y) m pos)))
-
--- where the top bits are equal, the extended numbers are in order
-extended_le : (w to x y : ℕ) → x ≤ y → x / 2 ^ (w - 1) ≡ y / 2 ^ (w - 1)
-    → cond (leb (2 ^ (w - 1)) x) (x + (2 ^ to - 2 ^ w)) x ≤ cond (leb (2 ^ (w - 1)) y) (y + (2 ^ to - 2 ^ w)) y
-extended_le w to x y h e = subst (λ t. cond (leb (2 ^ (w - 1)) x) (x + (2 ^ to - 2 ^ w)) x ≤ cond t (y + (2 ^ to - 2 ^ w)) y) (reaches_alike x y (w - 1) e)
-    (by_test (leb (2 ^ (w - 1)) x))
-  where
-    by_test : (t : Bool) → cond t (x + (2 ^ to - 2 ^ w)) x ≤ cond t (y + (2 ^ to - 2 ^ w)) y
-    by_test true = omega arith
-    by_test false = omega arith
 
 -- a flag that is known to be v
 flag_known : (v b : Bool) → b ≡ v → range_holds (flag v) (cond b 1 0) ≡ true
@@ -138,7 +121,7 @@ table_holds (Slice hi lo) a b c x y z f u =
     let n : lo + (hi - lo + 1) ≡ hi + 1 = omega arith in
     either_holds (eqb (a.lo / 2 ^ (hi + 1)) (a.hi / 2 ^ (hi + 1))) (both_ends (Slice hi lo) a b c) (range_full (width (hi - lo + 1))) _
     (λ t. let e : a.lo / 2 ^ (lo + (hi - lo + 1)) ≡ a.hi / 2 ^ (lo + (hi - lo + 1)) = subst (λ k. a.lo / 2 ^ k ≡ a.hi / 2 ^ k) (sym n) (eqb-true _ _ t) in
-    let s = div_between a.lo x a.hi (lo + (hi - lo + 1)) h.above h.below e in
+    let s = quotient_between a.lo x a.hi (lo + (hi - lo + 1)) h.above h.below e in
     between_holds (width (hi - lo + 1)) _ _ _ (part_le a.lo x lo (hi - lo + 1) h.above (sym s)) (part_le x a.hi lo (hi - lo + 1) h.below (s ∙ e)))
     (λ _. full_holds (width (hi - lo + 1)) _ (mod_below (x / 2 ^ lo) (2 ^ (hi - lo + 1)) (pow_pos (hi - lo + 1))))
 table_holds Concat a b c x y z f u =
@@ -150,9 +133,9 @@ table_holds (SignExt to) a b c x y z f u =
     let l = leb-true _ _ (and_parts (leb a.width.0 to) (leb to 128) f.fits).0 in
     either_holds (eqb (top_bit a.width a.lo) (top_bit a.width a.hi)) (both_ends (SignExt to) a b c) (range_full (width to)) _
     (λ t. let e = eqb-true _ _ t in
-    let s = div_between a.lo x a.hi (a.width.0 - 1) h.above h.below e in
+    let s = quotient_between a.lo x a.hi (a.width.0 - 1) h.above h.below e in
     between_holds (width to) _ _ _ (extended_le a.width.0 to a.lo x h.above (sym s)) (extended_le a.width.0 to x a.hi h.below (s ∙ e)))
-    (λ _. full_holds (width to) _ (sign_fits a.width.0 to x l (held_below a x f.a_is h)))
+    (λ _. full_holds (width to) _ (extended_fits a.width.0 to x l (held_below a x f.a_is h)))
 table_holds (Shl by) a b c x y z f u =
     let h = held a x (u.first (lit< tt)) in
     let m = 2 ^ a.width.0 in
@@ -168,7 +151,7 @@ table_holds (Shl by) a b c x y z f u =
     (λ _. full_holds a.width _ (mod_below (x * 2 ^ by) m pos))
 table_holds (Shr by) a b c x y z f u =
     let h = held a x (u.first (lit< tt)) in
-    between_holds a.width _ _ _ (div_le a.lo x by h.above) (div_le x a.hi by h.below)
+    between_holds a.width _ _ _ (quotient_le a.lo x by h.above) (quotient_le x a.hi by h.below)
 table_holds Eq a b c x y z f u = eq_holds a b x y (held a x (u.first (lit< tt))) (held b y (u.second (lit< tt)))
 table_holds Ltu a b c x y z f u = ltu_holds a b x y (held a x (u.first (lit< tt))) (held b y (u.second (lit< tt)))
 table_holds Ite a b c x y z f u = ite_holds a b c x y z (held a x (u.first (lit< tt))) (held b y (u.second (lit< tt))) (held c z (u.third (lit< tt)))

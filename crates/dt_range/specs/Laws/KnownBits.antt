@@ -3,14 +3,15 @@ use Rattle.std.proofs.Common.{◌≡◌, ℕ, ◌-◌, ◌/◌, ◌^◌, ◌<◌
 use Rattle.std.specs.Int.Bits.{and_zero_r}
 use Rattle.std.proofs.lemmas.Bool.{cases_lt, cond-true, cond-false, cond_both, eqb-true, eq-eqb, le-ltb, false≢true, cases_Bool}
 use Rattle.std.proofs.lemmas.Nat.{pow_pos, and_le_l}
+use Rattle.dt_lemmas.proofs.Powers.{quotient_between}
+use Rattle.dt_lemmas.proofs.Booleans.{and_alike}
 use Rattle.dt_bits.specs.Bits.{bit, number_of}
 use Rattle.dt_bits.specs.declared.value.Bv.{Bv}
-use Rattle.dt_bits.proofs.BitLemmas.{same_bits, bit_of_and, bit_of_zero, bit_of_ones, bit_above, number_of_below, bit_of_number}
+use Rattle.dt_bits.proofs.BitLemmas.{same_bits, bit_of_and, bit_of_zero, bit_of_ones, bit_above, number_of_below, bit_of_number, same_bit}
 use Rattle.dt_domain.specs.Domain.{KnowsBit, IsAllKnown}
 use Rattle.dt_range.specs.declared.Range.{Range}
 use Rattle.dt_range.specs.Range.{IsRange, range_is_empty, shares_from, range_mask, range_value, range_one}
 use Rattle.dt_range.specs.Ops.{range_ops}
-use Rattle.dt_range.specs.Laws.Numbers.{div_between, same_bit}
 use Rattle.dt_range.specs.Laws.Between.{Held, held_full}
 
 pub mask_empty : (a : Range) → range_is_empty a ≡ true → range_mask a ≡ 0
@@ -28,14 +29,7 @@ mask_bit a i e l = ap (λ n. bit n i) (mask_full a e) ∙ bit_of_number a.width.
 
 -- a held number has the bits that the ends share
 pub held_shares : (a : Range) (x i : ℕ) → Held a x → shares_from a i ≡ true → x / 2 ^ i ≡ a.lo / 2 ^ i
-held_shares a x i h e = div_between a.lo x a.hi i h.above h.below (eqb-true _ _ e)
-
-masked : (f p q : Bool) → (f ≡ true → p ≡ q) → (p && f) ≡ (q && f)
-masked true p q h = ap (λ b. b && true) (h refl)
-masked false true true h = refl
-masked false true false h = refl
-masked false false true h = refl
-masked false false false h = refl
+held_shares a x i h e = quotient_between a.lo x a.hi i h.above h.below (eqb-true _ _ e)
 
 pub held_agrees : (a : Range) (x : ℕ) → IsRange a → Held a x → bit_and x (range_mask a) ≡ range_value a
 held_agrees a x p h =
@@ -43,7 +37,7 @@ held_agrees a x p h =
     let below : x < 2 ^ a.width.0 = omega (arith, p.hi_fits, h.below) in
     same_bits a.width.0 (bit_and x m) (bit_and a.lo m) (omega (arith, and_le_l x m)) (omega (arith, and_le_l a.lo m, p.lo_fits))
     (λ i l. bit_of_and x m i
-    ∙ masked (bit m i) (bit x i) (bit a.lo i) (λ e. same_bit x a.lo i (held_shares a x i h (sym (mask_bit a i (held_full a x h) l) ∙ e)))
+    ∙ and_alike (bit m i) (bit x i) (bit a.lo i) (λ e. same_bit x a.lo i (held_shares a x i h (sym (mask_bit a i (held_full a x h) l) ∙ e)))
     ∙ sym (bit_of_and a.lo m i))
 
 pub empty_known : (a : Range) → range_is_empty a ≡ true → (range_mask a ≡ 0) × (range_value a ≡ 0)

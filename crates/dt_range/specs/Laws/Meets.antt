@@ -1,17 +1,18 @@
 -- What a meet holds and knows, and what is left where a bit is set.
-use Rattle.std.proofs.Common.{◌≡◌, ℕ, ◌+◌, ◌-◌, ◌*◌, ◌/◌, ◌%◌, ◌^◌, ◌<◌, ◌≤◌, Bool, true, false, cond, leb, refl, sym, ap, ◌∙◌, subst, ◌⊎◌, ⊎_elim, min, max, arith}
-use Rattle.std.proofs.lemmas.Bool.{cases_lt, cond_both, cond-true, eqb-true, eqb-false, eq-eqb, ltb-true, le-ltb, leb-true, false≢true}
+use Rattle.std.proofs.Common.{◌≡◌, ℕ, ◌+◌, ◌-◌, ◌*◌, ◌/◌, ◌%◌, ◌^◌, ◌<◌, ◌≤◌, Bool, true, false, ◌&&◌, cond, leb, refl, sym, ap, ◌∙◌, subst, ◌⊎◌, ⊎_elim, min, max, arith}
+use Rattle.std.specs.Cmp.{both_ways}
+use Rattle.std.proofs.lemmas.Bool.{and_parts, and_from, cases_lt, cond_both, cond-true, eqb-true, eqb-false, eq-eqb, ltb-true, le-ltb, leb-true, false≢true}
 use Rattle.std.proofs.lemmas.Nat.{pow_pos}
 use Rattle.std.proofs.Math.Nat.{div-mul-le_self, lt-div-mul-add, mul-le-mul_right}
+use Rattle.dt_lemmas.proofs.Powers.{quotient_le, quotient_between, halved}
 use Rattle.dt_bits.specs.Bits.{bit, differs}
 use Rattle.dt_bits.specs.declared.value.Width.{Width}
-use Rattle.dt_bits.proofs.BitLemmas.{at_bit}
+use Rattle.dt_bits.proofs.BitLemmas.{at_bit, same_bit}
 use Rattle.dt_domain.specs.Domain.{AreAlike, KnowsBit}
 use Rattle.dt_range.specs.declared.Range.{Range}
 use Rattle.dt_range.specs.Range.{IsRange, range_holds, range_is_empty, no_range, range_between, range_meet, shares_from, half_at, half, range_with_bit}
 use Rattle.dt_range.specs.Ops.{range_ops}
-use Rattle.dt_range.specs.Laws.Numbers.{halved, div_le, div_between, same_bit}
-use Rattle.dt_range.specs.Laws.Between.{Held, held_is, held_full, between_holds, between_is, no_range_is, either_holds, either_is, IsOf}
+use Rattle.dt_range.specs.Laws.Between.{Held, held, held_is, held_full, between_holds, between_is, no_range_is, either_holds, either_is, IsOf}
 use Rattle.dt_range.specs.Laws.KnownBits.{Knows, knows, knows_bit, held_shares}
 
 pub meet_is : (a b : Range) → AreAlike range_ops a b → IsOf a.width (range_meet a b)
@@ -19,6 +20,25 @@ meet_is a b g = between_is a.width (max a.lo b.lo) (min a.hi b.hi) g.a_is.width 
 
 pub meet_holds : (a b : Range) (x : ℕ) → Held a x → Held b x → range_holds (range_meet a b) x ≡ true
 meet_holds a b x h k = between_holds a.width (max a.lo b.lo) (min a.hi b.hi) x (omega (arith, h.above, k.above)) (omega (arith, h.below, k.below))
+
+-- what a meet holds, both hold
+meet_held : (a b : Range) (x : ℕ) → range_holds (range_meet a b) x ≡ true → (range_holds a x && range_holds b x) ≡ true
+meet_held a b x h =
+    let f : ℕ → ℕ → Range = λ lo hi. record { lo = lo; hi = hi; width = a.width } in
+    cond_both (leb (max a.lo b.lo) (min a.hi b.hi)) (f (max a.lo b.lo) (min a.hi b.hi)) (no_range a.width)
+    (λ r. range_holds r x ≡ true → (range_holds a x && range_holds b x) ≡ true)
+    (λ e t. let k = held (f (max a.lo b.lo) (min a.hi b.hi)) x t in
+    let p : max a.lo b.lo ≤ x = k.above in
+    let q : x ≤ min a.hi b.hi = k.below in
+    and_from (range_holds a x) (range_holds b x) (held_is a x (omega arith) (omega arith)) (held_is b x (omega arith) (omega arith)))
+    (λ e t. let k = held (no_range a.width) x t in let p : 1 ≤ x = k.above in let q : x ≤ 0 = k.below in absurd (omega arith))
+    h
+
+-- it holds exactly the numbers that both hold
+pub meets : (a b : Range) (x : ℕ) → range_holds (range_meet a b) x ≡ (range_holds a x && range_holds b x)
+meets a b x = both_ways (range_holds (range_meet a b) x) (range_holds a x && range_holds b x)
+    (λ t. meet_held a b x t)
+    (λ t. let p = and_parts (range_holds a x) (range_holds b x) t in meet_holds a b x (held a x p.0) (held b x p.1))
 
 -- a range between ends that cross is empty
 crossed : (w : Width) (lo hi : ℕ) → hi < lo → range_is_empty (range_between w lo hi) ≡ true
@@ -55,8 +75,8 @@ met a b e =
 within_knows : (a r : Range) (i : ℕ) (v : Bool) → a.width.0 ≡ r.width.0 → a.lo ≤ r.lo → r.lo ≤ r.hi → r.hi ≤ a.hi → Knows a i v → Knows r i v
 within_knows a r i v w l m h k =
     let e = eqb-true _ _ k.shares in
-    let s = div_between a.lo r.lo a.hi i l (omega arith) e in
-    let t = div_between a.lo r.hi a.hi i (omega arith) h e in
+    let s = quotient_between a.lo r.lo a.hi i l (omega arith) e in
+    let t = quotient_between a.lo r.hi a.hi i (omega arith) h e in
     record {
       full = le-ltb r.hi r.lo m;
       below = subst (λ n. i < n) w k.below;
@@ -87,8 +107,8 @@ in_half a i x true l h ne e b =
     let p = halved a.lo i in
     let q = halved a.hi i in
     let r = halved x i in
-    let s = div_between a.lo x a.hi (i + 1) l h e in
-    let t = div_le a.lo a.hi i (omega arith) in
+    let s = quotient_between a.lo x a.hi (i + 1) l h e in
+    let t = quotient_le a.lo a.hi i (omega arith) in
     let d : x / 2 ^ i ≡ a.hi / 2 ^ i = omega arith in
     let m : x / 2 ^ i * 2 ^ i ≡ a.hi / 2 ^ i * 2 ^ i = ap (λ n. n * 2 ^ i) d in
     between_holds a.width (half_at a i) a.hi x (omega (arith, div-mul-le_self x (2 ^ i))) h
@@ -96,8 +116,8 @@ in_half a i x false l h ne e b =
     let p = halved a.lo i in
     let q = halved a.hi i in
     let r = halved x i in
-    let s = div_between a.lo x a.hi (i + 1) l h e in
-    let t = div_le a.lo a.hi i (omega arith) in
+    let s = quotient_between a.lo x a.hi (i + 1) l h e in
+    let t = quotient_le a.lo a.hi i (omega arith) in
     let d : x / 2 ^ i + 1 ≤ a.hi / 2 ^ i = omega arith in
     let m : (x / 2 ^ i + 1) * 2 ^ i ≤ a.hi / 2 ^ i * 2 ^ i = mul-le-mul_right (2 ^ i) d in
     let u : x < x / 2 ^ i * 2 ^ i + 2 ^ i = lt-div-mul-add (pow_pos i) in

@@ -3,10 +3,16 @@ use Rattle.std.proofs.Math.Nat.{pow-le-pow_right}
 use Rattle.dt_bits.proofs.applying.extended.Goals as goal
 
 pub overflow_sub-result : goal.overflow_sub-result
-overflow_sub-result c = let m : 2 ^ c.args.width ≤ 2 ^ c.args.to = pow-le-pow_right (lit< tt) c.requires.order in omega (arith, c.ones.ensures, c.ones-then-a-width.ensures)
+overflow_sub-result c =
+    let m : 2 ^ c.args.value.width.0 ≤ 2 ^ c.args.to.0 = pow-le-pow_right (lit< tt) c.requires.order in
+    omega (arith, c.ones.ensures, c.ones-then-value.ensures)
 
-pub returns-then-a-width-clause-range : goal.returns-then-a-width-clause-range
-returns-then-a-width-clause-range c = let m : 2 ^ c.args.width ≤ 2 ^ c.args.to = pow-le-pow_right (lit< tt) c.requires.order in omega (arith, c.ones.ensures, c.ones-then-a-width.ensures)
+pub returns-then-value-clause-range : goal.returns-then-value-clause-range
+returns-then-value-clause-range c =
+    let m : 2 ^ c.args.value.width.0 ≤ 2 ^ c.args.to.0 = pow-le-pow_right (lit< tt) c.requires.order in
+    (c.requires.to, omega (arith, c.requires.value.1, c.ones.ensures, c.ones-then-value.ensures))
 
-pub returns-else-a-width-clause-range : goal.returns-else-a-width-clause-range
-returns-else-a-width-clause-range c = let m : 2 ^ c.args.width ≤ 2 ^ c.args.to = pow-le-pow_right (lit< tt) c.requires.order in omega arith
+pub returns-else-value-clause-range : goal.returns-else-value-clause-range
+returns-else-value-clause-range c =
+    let m : 2 ^ c.args.value.width.0 ≤ 2 ^ c.args.to.0 = pow-le-pow_right (lit< tt) c.requires.order in
+    (c.requires.to, omega (arith, c.requires.value.1))

@@ -1,13 +1,19 @@
-use Rattle.std.proofs.Common.{◌≡◌, ◌+◌, ◌*◌, ◌^◌, ◌<◌, arith, bit_or, ap, ◌∙◌, sym, subst}
-use Rattle.std.proofs.lemmas.Nat.{shl_whole, or_shifted, mul-add-lt, pow-add}
+use Rattle.std.proofs.Common.{ℕ, ◌+◌, ◌*◌, ◌^◌, ◌<◌, ap, sym, subst, arith}
+use Rattle.dt_lemmas.proofs.Powers.{joined_words, joined_fits}
+use Rattle.dt_bits.specs.Bits.{IsValue, width}
+use Rattle.dt_bits.specs.declared.value.Bv.{Bv}
 use Rattle.dt_bits.proofs.applying.joined.Goals as goal
-use Rattle.std.proofs.Common.{ℕ}
-
-whole : (a j k b : ℕ) → a < 2 ^ j → b < 2 ^ k → a * 2 ^ k + b < 2 ^ (j + k)
-whole a j k b p q = subst (λ n. a * 2 ^ k + b < n) (let e : 2 ^ k * 2 ^ j ≡ 2 ^ j * 2 ^ k = omega arith in e ∙ sym (pow-add 2 j k)) (mul-add-lt a (2 ^ k) b (2 ^ j) p q)
 
 pub returns-clause-value : goal.returns-clause-value
-returns-clause-value c = ap (λ n. bit_or n c.args.b) (shl_whole c.args.a c.args.a_width c.args.b_width 128 c.requires.a c.requires.whole) ∙ or_shifted c.args.a c.args.b_width c.args.b c.requires.b
+returns-clause-value c =
+    let h = c.args.high in
+    let l = c.args.low in
+    let f : ℕ → Bv = λ n. record { width = width (h.width.0 + l.width.0); bits = n } in
+    ap f (joined_words h.bits h.width.0 l.bits l.width.0 c.requires.high.1 c.requires.low.1 c.requires.whole)
 
 pub returns-clause-range : goal.returns-clause-range
-returns-clause-range c = subst (λ n. n < 2 ^ (c.args.a_width + c.args.b_width)) (sym (returns-clause-value c)) (whole c.args.a c.args.a_width c.args.b_width c.args.b c.requires.a c.requires.b)
+returns-clause-range c =
+    let h = c.args.high in
+    let l = c.args.low in
+    subst IsValue (sym (returns-clause-value c))
+    ((omega (arith, c.requires.high), c.requires.whole), joined_fits h.bits h.width.0 l.bits l.width.0 c.requires.high.1 c.requires.low.1)

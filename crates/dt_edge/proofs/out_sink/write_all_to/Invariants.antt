@@ -1,5 +1,9 @@
 use Rattle.std.proofs.Common.{length}
+use Rattle.dt_edge.proofs.Written.{Wrote}
 use Rattle.dt_edge.proofs.out_sink.write_all_to.Given as goal
+
+abbrev pub invariant-writes : goal.invariant-writes
+invariant-writes g l = Wrote (g.W.Write.contents l.fn.out) (g.W.Write.contents l.out) l.bytes l.rest
 
 abbrev pub decreases-writes : goal.decreases-writes
 decreases-writes g l = length l.rest

@@ -1,6 +1,6 @@
 use Rattle.std.proofs.Common.{sym, ◌∙◌}
 use Rattle.dt_lex.specs.Text.{tokens_of}
-use Rattle.dt_image.proofs.Steps.{numbers_stop}
+use Rattle.dt_image.proofs.Numbers.{numbers_stop}
 use Rattle.dt_image.proofs.line.numbers.Goals as goal
 
 pub returns-in-None : goal.returns-in-None

@@ -1,7 +1,7 @@
 use Rattle.std.proofs.Common.{◌≡◌, length}
 use Rattle.dt_lex.specs.Text.{tokens_of}
-use Rattle.dt_image.specs.Lines.{numbers_of}
-use Rattle.dt_image.proofs.Steps.{with_front}
+use Rattle.dt_image.specs.Line.{numbers_of}
+use Rattle.dt_image.proofs.Numbers.{with_front}
 use Rattle.dt_image.proofs.line.numbers.Given as goal
 
 abbrev pub invariant-loop-token : goal.invariant-loop-token

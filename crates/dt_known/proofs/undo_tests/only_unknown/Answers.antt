@@ -1,5 +1,5 @@
 use Rattle.std.proofs.Common.{ap, bit_xor, arith}
-use Rattle.dt_known.proofs.Words.{wide}
+use Rattle.dt_lemmas.proofs.Powers.{wide}
 use Rattle.dt_known.proofs.TestWords.{only_none, only_lowest, only_more, only_fits, lowest_below}
 use Rattle.dt_known.proofs.undo_tests.only_unknown.Goals as goal
 

@@ -3,7 +3,8 @@ use Rattle.dt_lex.specs.Text.{lines_of}
 use Rattle.dt_lex.specs.Spans.{tokens_in, lexed_from}
 use Rattle.dt_lex.proofs.Cuts.{length-lines_of-le, lines_past}
 use Rattle.dt_lex.proofs.Spanned.{line_from, lex_start, lex_more, lex_stop, lex_end, in_order_wider}
-use Rattle.dt_lex.proofs.Located.{slice_width, lines_more, lines_end}
+use Rattle.dt_lemmas.proofs.Lists.{slice_width}
+use Rattle.dt_lex.proofs.Located.{lines_more, lines_end}
 use Rattle.dt_lex.proofs.lexing.lex.Goals as goal
 
 pub loop-from-init : goal.loop-from-init

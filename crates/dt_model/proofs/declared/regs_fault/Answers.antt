@@ -1,9 +1,9 @@
 use Rattle.std.proofs.Common.{ℕ, [], Option, refl, subst}
 use Rattle.dt_model.specs.declared.refusal.ModelRefusal.{ModelRefusal}
 use Rattle.dt_model.specs.declared.refusal.Place.TheVariants.{Reg}
-use Rattle.dt_model.specs.Data.{data_of}
+use Rattle.dt_model.specs.ModelData.{data_of}
 use Rattle.dt_model.specs.Faults.{Breaks}
-use Rattle.dt_model.specs.First.{IsFirst}
+use Rattle.dt_model.specs.Refusals.{IsFirst}
 use Rattle.dt_model.proofs.Compose.{names_first, refused_at, passes_more}
 use Rattle.dt_model.proofs.declared.regs_fault.Goals as goal
 

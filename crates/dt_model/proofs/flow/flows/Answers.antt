@@ -2,9 +2,10 @@ use Rattle.std.proofs.Common.{◌≡◌, ℕ, ◌+◌, ◌<◌, Bool, length, ge
 use Rattle.dt_model.specs.declared.flow.NodeSets.{NodeSets}
 use Rattle.dt_model.specs.Flow.{found, some_after, steps_of}
 use Rattle.dt_model.specs.Paths.{SomePath}
-use Rattle.dt_model.specs.Data.{step_of}
+use Rattle.dt_model.specs.ModelData.{act_of}
 use Rattle.std.proofs.Common.{rules}
-use Rattle.dt_model.proofs.Nodes.{written, step_at}
+use Rattle.dt_lemmas.proofs.Lists.{written}
+use Rattle.dt_model.proofs.Nodes.{step_at}
 use Rattle.dt_model.proofs.PathSets.{after_more, after_none, some_path_at}
 use Rattle.dt_model.proofs.flow.flows.Goals as goal
 
@@ -27,7 +28,7 @@ loop-k-preserved c =
           let value = c.as_mut_slice.ensures.value in
           let within : n < length c.as_mut_slice.result.now = omega (arith, ap length value, c.loop-k.invariant.0) in
           c.follow.ensures n v b d within h
-          ∙ after_more (steps_of nodes) (step_of c.index-nodes-k.result.act) (found (get_or c.as_mut_slice.result.now k d) v) (found (get_or c.as_mut_slice.result.now n d) v b) v k n b
+          ∙ after_more (steps_of nodes) (act_of c.index-nodes-k.result.act) (found (get_or c.as_mut_slice.result.now k d) v) (found (get_or c.as_mut_slice.result.now n d) v b) v k n b
           (step_at nodes k c.index-nodes-k.result c.index-nodes-k.result inside c.index-nodes-k.is)
           (λ q. ap (λ (s : List NodeSets). found (get_or s k d) v q) value ∙ c.loop-k.invariant.1 k v q d c.loop-k-test.true h)
           (ap (λ (s : List NodeSets). found (get_or s n d) v b) value ∙ c.loop-k.invariant.1 n v b d l h),

@@ -2,10 +2,11 @@ use Rattle.std.proofs.Common.{◌≡◌, ℕ, List, [], map, Option, Some, None,
 use Rattle.std.specs.List.{All}
 use Rattle.dt_model.specs.declared.expr.Expr.{Expr}
 use Rattle.dt_model.specs.declared.refusal.ModelRefusal.{ModelRefusal}
-use Rattle.dt_model.specs.Data.{Data, Tree, data_of, tree_of}
+use Rattle.dt_model.specs.ModelData.{ModelData, Tree, data_of, tree_of}
 use Rattle.dt_model.specs.Widths.{Scope, AreWidths, HasArities}
 use Rattle.dt_model.specs.Faults.{access_scope}
-use Rattle.dt_model.proofs.Compose.{access_first, refused_at, passes_more, passed_reg_widths, passed_input_widths, All-from_map}
+use Rattle.dt_lemmas.proofs.Lists.{All-from_map}
+use Rattle.dt_model.proofs.Compose.{access_first, refused_at, passes_more, passed_reg_widths, passed_input_widths}
 use Rattle.dt_model.proofs.legal.access_fault.Goals as goal
 
 pub rules_fault-requires-clause-arities : goal.rules_fault-requires-clause-arities
@@ -19,7 +20,7 @@ rules_fault-requires-clause-inputs c = subst AreWidths (sym c.as_slice-2.ensures
 
 pub returns-in-Ok-clause-passes : goal.returns-in-Ok-clause-passes
 returns-in-Ok-clause-passes c =
-    let d : Data = data_of c.args.m.now in
+    let d : ModelData = data_of c.args.m.now in
     let s : Scope = record { regs = c.as_slice.result.now; inputs = c.as_slice-2.result.now; vars = [] } in
     let trees : List Tree = map tree_of c.as_slice-3.result.now in
     let o : Option (ℕ × ModelRefusal) = None in
@@ -29,7 +30,7 @@ returns-in-Ok-clause-passes c =
 
 pub returns-in-Err-clause-refused : goal.returns-in-Err-clause-refused
 returns-in-Err-clause-refused c =
-    let d : Data = data_of c.args.m.now in
+    let d : ModelData = data_of c.args.m.now in
     let s : Scope = record { regs = c.as_slice.result.now; inputs = c.as_slice-2.result.now; vars = [] } in
     let trees : List Tree = map tree_of c.as_slice-3.result.now in
     let o : Option (ℕ × ModelRefusal) = Some (c.in-Err.i, c.in-Err.refusal) in

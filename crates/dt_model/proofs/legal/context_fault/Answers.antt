@@ -3,10 +3,11 @@ use Rattle.std.specs.List.{All}
 use Rattle.dt_model.specs.declared.expr.Expr.{Expr}
 use Rattle.dt_model.specs.declared.model.Named.{Named}
 use Rattle.dt_model.specs.declared.refusal.ModelRefusal.{ModelRefusal}
-use Rattle.dt_model.specs.Data.{Data, Tree, data_of, tree_of}
+use Rattle.dt_model.specs.ModelData.{ModelData, Tree, data_of, tree_of}
 use Rattle.dt_model.specs.Widths.{Scope, AreWidths, HasArities}
 use Rattle.dt_model.specs.Faults.{context_scope}
-use Rattle.dt_model.proofs.Compose.{context_first, refused_at, passes_more, passed_reg_widths, All-from_map}
+use Rattle.dt_lemmas.proofs.Lists.{All-from_map}
+use Rattle.dt_model.proofs.Compose.{context_first, refused_at, passes_more, passed_reg_widths}
 use Rattle.dt_model.proofs.legal.context_fault.Goals as goal
 
 pub rules_fault-requires-clause-arities : goal.rules_fault-requires-clause-arities
@@ -17,7 +18,7 @@ rules_fault-requires-clause-regs c = subst AreWidths (sym c.as_slice.ensures) (p
 
 pub returns-in-Ok-clause-passes : goal.returns-in-Ok-clause-passes
 returns-in-Ok-clause-passes c =
-    let d : Data = data_of c.args.m.now in
+    let d : ModelData = data_of c.args.m.now in
     let s : Scope = record { regs = c.as_slice.result.now; inputs = []; vars = [] } in
     let trees : List Tree = map tree_of c.as_slice-2.result.now in
     let o : Option (ℕ × ModelRefusal) = None in
@@ -27,7 +28,7 @@ returns-in-Ok-clause-passes c =
 
 pub returns-in-Err-clause-refused : goal.returns-in-Err-clause-refused
 returns-in-Err-clause-refused c =
-    let d : Data = data_of c.args.m.now in
+    let d : ModelData = data_of c.args.m.now in
     let s : Scope = record { regs = c.as_slice.result.now; inputs = []; vars = [] } in
     let trees : List Tree = map tree_of c.as_slice-2.result.now in
     let o : Option (ℕ × ModelRefusal) = Some (c.in-Err.i, c.in-Err.refusal) in

@@ -7,8 +7,8 @@ use Rattle.dt_model.specs.declared.model.Named.{Named}
 use Rattle.dt_model.specs.declared.refusal.ModelRefusal.{ModelRefusal}
 use Rattle.dt_model.specs.declared.refusal.ModelRefusal.TheVariants.{NameTwice, TooMany}
 use Rattle.dt_model.specs.Faults.{NameBreaks, is_named, names_of}
-use Rattle.dt_model.specs.First.{IsSmallest, NamesBreak}
-use Rattle.dt_model.proofs.Firsts.{smallest_at, none_more, none_past}
+use Rattle.dt_model.specs.Refusals.{IsSmallest, NamesBreak}
+use Rattle.dt_model.proofs.Refusals.{smallest_at, none_more, none_past}
 use Rattle.dt_model.proofs.naming.names_fault.Goals as goal
 
 pub loop-i-preserved : goal.loop-i-preserved

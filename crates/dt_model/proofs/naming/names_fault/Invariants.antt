@@ -1,7 +1,7 @@
 use Rattle.std.proofs.Common.{◌≡◌, ℕ, ◌<◌, ◌≤◌, ◌++◌, take}
 use Rattle.dt_model.specs.declared.refusal.ModelRefusal.{ModelRefusal}
 use Rattle.dt_model.specs.Faults.{names_of}
-use Rattle.dt_model.specs.First.{NamesBreak}
+use Rattle.dt_model.specs.Refusals.{NamesBreak}
 use Rattle.dt_model.proofs.naming.names_fault.Given as goal
 
 abbrev pub invariant-loop-i : goal.invariant-loop-i

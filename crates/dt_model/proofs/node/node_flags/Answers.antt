@@ -4,11 +4,11 @@ use Rattle.dt_model.specs.declared.model.Node.{Node}
 use Rattle.std.specs.Prelude.{IsTrue, ◌↔◌}
 use Rattle.dt_model.specs.declared.refusal.ModelRefusal.TheVariants.{NameTwice, TooMany}
 use Rattle.dt_model.specs.declared.flags.Flags.{Flags}
-use Rattle.dt_model.specs.Data.{data_of, spot_of, step_of}
+use Rattle.dt_model.specs.ModelData.{data_of, node_of, act_of}
 use Rattle.dt_model.specs.Widths.{Scope}
 use Rattle.dt_model.specs.Faults.{NodeBreaks, any, targets, tree_in, assigned}
 use Rattle.dt_model.specs.Marks.{UsesOf, AssignsOf}
-use Rattle.dt_model.specs.First.{Tells}
+use Rattle.dt_model.specs.Refusals.{Tells}
 use Rattle.dt_model.proofs.NodeTells.{node_tells}
 use Rattle.dt_model.proofs.node.node_flags.Goals as goal
 
@@ -21,21 +21,21 @@ returns c = λ d.
     let s : Scope = record { regs = c.as_slice.result.now; inputs = c.as_slice-2.result.now; vars = c.as_slice-3.result.now } in
     let here : x ≡ get_or m.nodes i d = c.index-nodes-i.is ∙ ap (λ (l : List Node). get_or l i x) c.as_slice-nodes.ensures ∙ get_or_default m.nodes i x d c.requires.within in
     let there : x ≡ get_or m.nodes i x = c.index-nodes-i.is ∙ ap (λ (l : List Node). get_or l i x) c.as_slice-nodes.ensures in
-    let count : length c.as_slice-nodes.result.now ≡ length (data_of m).nodes = ap length c.as_slice-nodes.ensures ∙ sym (length-map m.nodes spot_of) in
+    let count : length c.as_slice-nodes.result.now ≡ length (data_of m).nodes = ap length c.as_slice-nodes.ensures ∙ sym (length-map m.nodes node_of) in
     let e1 = c.as_slice.ensures in
     let e2 = c.as_slice-2.ensures in
     let e3 = c.as_slice-3.ensures in
-    subst (λ (n : Node). Tells f (NodeBreaks (data_of m) i (spot_of n))) here
-    (node_tells (data_of m) i (spot_of x) s c.args.sets.now f c.requires.vars c.requires.sets (record {
+    subst (λ (n : Node). Tells f (NodeBreaks (data_of m) i (node_of n))) here
+    (node_tells (data_of m) i (node_of x) s c.args.sets.now f c.requires.declared.few_vars c.requires.sets (record {
       scope = cc;
-      name_twice = subst (λ (n : Node). IsTrue c.args.taken ↔ NodeBreaks (data_of m) i (spot_of n) NameTwice) (sym there) (c.requires.named x);
+      name_twice = subst (λ (n : Node). IsTrue c.args.taken ↔ NodeBreaks (data_of m) i (node_of n) NameTwice) (sym there) (c.requires.named x);
       unknown = c.act_unknown.ensures;
       mismatch = c.act_mismatch.ensures;
       range = c.act_range.ensures;
-      back = c.act_back.ensures ∙ ap (λ (k : ℕ). any (targets (step_of x.act)) (λ t. ltb t k && leb t i)) count;
-      left = subst (λ (k : ℕ). IsTrue c.act_left.result ↔ UsesOf c.args.sets.now.left k (tree_in (step_of x.act))) c.len-count.ensures c.act_left.ensures;
-      again = subst (λ (k : ℕ). IsTrue c.act_again.result ↔ AssignsOf c.args.sets.now.assigned k (assigned (step_of x.act))) c.len-count.ensures c.act_again.ensures;
-      node = c.act_no_node.ensures ∙ ap (λ (k : ℕ). any (targets (step_of x.act)) (λ t. leb k t)) count;
-      many = subst (λ (n : Node). IsTrue c.args.too_many ↔ NodeBreaks (data_of m) i (spot_of n) TooMany) (sym there) (c.requires.many x);
+      back = c.act_back.ensures ∙ ap (λ (k : ℕ). any (targets (act_of x.act)) (λ t. ltb t k && leb t i)) count;
+      left = subst (λ (k : ℕ). IsTrue c.act_left.result ↔ UsesOf c.args.sets.now.left k (tree_in (act_of x.act))) c.len-count.ensures c.act_left.ensures;
+      again = subst (λ (k : ℕ). IsTrue c.act_again.result ↔ AssignsOf c.args.sets.now.assigned k (assigned (act_of x.act))) c.len-count.ensures c.act_again.ensures;
+      node = c.act_no_node.ensures ∙ ap (λ (k : ℕ). any (targets (act_of x.act)) (λ t. leb k t)) count;
+      many = subst (λ (n : Node). IsTrue c.args.too_many ↔ NodeBreaks (data_of m) i (node_of n) TooMany) (sym there) (c.requires.many x);
       deep = c.act_deep.ensures;
     }))

@@ -4,12 +4,12 @@ use Rattle.std.proofs.lemmas.List.{get_or-map, length-map}
 use Rattle.std.proofs.lemmas.List.Sums.{sum_by_more}
 use Rattle.dt_model.specs.declared.refusal.ModelRefusal.{ModelRefusal}
 use Rattle.dt_model.specs.declared.refusal.ModelRefusal.TheVariants.{TooMany}
-use Rattle.dt_model.specs.Data.{Tree, tree_of}
+use Rattle.dt_model.specs.ModelData.{Tree, tree_of}
 use Rattle.dt_model.specs.Scopes.{scope_of}
 use Rattle.dt_model.specs.Widths.{operators}
 use Rattle.dt_model.specs.Faults.{RuleBreaks, rule_operators}
-use Rattle.dt_model.specs.First.{IsSmallest, RulesBreak}
-use Rattle.dt_model.proofs.Firsts.{smallest_at, none_more, none_past}
+use Rattle.dt_model.specs.Refusals.{IsSmallest, RulesBreak}
+use Rattle.dt_model.proofs.Refusals.{smallest_at, none_more, none_past}
 use Rattle.dt_model.proofs.rules.rules_fault.Goals as goal
 
 pub loop-i-preserved : goal.loop-i-preserved

@@ -1,9 +1,9 @@
 use Rattle.std.proofs.Common.{◌≡◌, ℕ, ◌+◌, ◌<◌, ◌≤◌, map, take}
 use Rattle.dt_model.specs.declared.refusal.ModelRefusal.{ModelRefusal}
-use Rattle.dt_model.specs.Data.{tree_of}
+use Rattle.dt_model.specs.ModelData.{tree_of}
 use Rattle.dt_model.specs.Scopes.{scope_of}
 use Rattle.dt_model.specs.Faults.{rule_operators}
-use Rattle.dt_model.specs.First.{RulesBreak}
+use Rattle.dt_model.specs.Refusals.{RulesBreak}
 use Rattle.dt_model.proofs.rules.rules_fault.Given as goal
 
 abbrev pub invariant-loop-i : goal.invariant-loop-i

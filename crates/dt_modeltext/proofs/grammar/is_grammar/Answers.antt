@@ -1,4 +1,4 @@
-use Rattle.dt_modeltext.proofs.Again.{expr_again, expr_takes}
+use Rattle.dt_modeltext.proofs.ExprSpellings.{expr_again, expr_takes}
 use Rattle.dt_modeltext.proofs.Depths.{is_shallow_in}
 use Rattle.dt_modeltext.proofs.grammar.is_grammar.Goals as goal
 

@@ -4,7 +4,7 @@ use Rattle.dt_pair.specs.declared.Pair.{Pair}
 use Rattle.dt_pair.specs.Pair.{IsPair, both_hold, pair_holds}
 use Rattle.dt_pair.specs.Laws.Normal.{normal_same}
 use Rattle.dt_pair.specs.Laws.Form.{normal_is, normal_empty, normal_width}
-use Rattle.dt_pair.specs.Laws.Unique.{told, ends_are}
+use Rattle.dt_pair.specs.Laws.Unique.{canonical, ends_are}
 use Rattle.dt_pair.proofs.Pair.normal.Goals as goal
 
 pub returns-clause-valid : goal.returns-clause-valid
@@ -22,8 +22,8 @@ returns-clause-empty c =
     let r = c.args.range.now in
     subst (λ (p : Pair). (p.known.empty ≡ true) ↔ ((x : ℕ) → both_hold k r x ≡ false)) (sym c.normalised.ensures) (normal_empty k r c.requires)
 
-pub returns-clause-told : goal.returns-clause-told
-returns-clause-told c = told c.normalised.result (returns-clause-valid c)
+pub returns-clause-canonical : goal.returns-clause-canonical
+returns-clause-canonical c = canonical c.normalised.result (returns-clause-valid c)
 
 pub returns-clause-width : goal.returns-clause-width
 returns-clause-width c = ap (λ (p : Pair). p.known.width) c.normalised.ensures ∙ normal_width c.args.known.now c.args.range.now

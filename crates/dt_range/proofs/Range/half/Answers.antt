@@ -1,5 +1,5 @@
 use Rattle.std.proofs.Common.{arith}
-use Rattle.dt_range.proofs.Words.{middle_positive}
+use Rattle.dt_lemmas.proofs.Powers.{middle_positive}
 use Rattle.dt_range.proofs.Range.half.Goals as goal
 
 pub overflow_sub-middle : goal.overflow_sub-middle

@@ -1,5 +1,5 @@
 use Rattle.std.proofs.Common.{◌/◌, ◌^◌, ◌≤◌, subst, arith}
-use Rattle.dt_range.specs.Laws.Numbers.{largest_shifted}
+use Rattle.dt_lemmas.proofs.Powers.{largest_shifted}
 use Rattle.dt_range.proofs.undo.shr_back_of.Goals as goal
 
 pub spread_of-requires-clause-fits : goal.spread_of-requires-clause-fits

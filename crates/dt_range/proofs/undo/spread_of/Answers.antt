@@ -1,8 +1,8 @@
 use Rattle.std.proofs.Common.{◌≡◌, ◌+◌, ◌-◌, ◌*◌, ◌%◌, ◌^◌, ◌≤◌, ap, ◌∙◌, arith, lit<}
 use Rattle.std.proofs.lemmas.Nat.{pow_pos}
 use Rattle.std.proofs.Math.Nat.{pow-le-pow_right}
+use Rattle.dt_lemmas.proofs.Powers.{moved_up, moved_fits}
 use Rattle.dt_range.specs.Range.{range_between}
-use Rattle.dt_range.proofs.Words.{moved_up, moved_fits}
 use Rattle.dt_range.proofs.undo.spread_of.Goals as goal
 
 pub overflow_add-outcome : goal.overflow_add-outcome

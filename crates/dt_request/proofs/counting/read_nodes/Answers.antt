@@ -1,7 +1,7 @@
 use Rattle.std.proofs.Common.{◌≡◌, ap, ◌∙◌, sym, arith, List}
 use Rattle.std.specs.Prelude.{count_by}
 use Rattle.dt_model.specs.declared.model.Node.{Node}
-use Rattle.dt_model.specs.Data.{step_of}
+use Rattle.dt_model.specs.ModelData.{act_of}
 use Rattle.dt_model.specs.Accepted.{accepted_data}
 use Rattle.dt_model.specs.Faults.{is_read}
 use Rattle.dt_request.specs.Choices.{read_nodes}
@@ -12,7 +12,7 @@ pub returns : goal.returns
 returns c =
     let value : c.reads_among.result ≡ read_nodes (accepted_data c.args.model.now) =
     c.reads_among.ensures
-    ∙ ap (λ (nodes : List Node). count_by (λ (n : Node). is_read (step_of n.act)) nodes) c.as_slice.ensures
+    ∙ ap (λ (nodes : List Node). count_by (λ (n : Node). is_read (act_of n.act)) nodes) c.as_slice.ensures
     ∙ sym (reads_seen c.model.result.now.nodes)
     ∙ ap read_nodes c.model.ensures.same in
     record { value = value; few = omega (arith, reads_few (accepted_data c.args.model.now) c.model.ensures.accepted) }

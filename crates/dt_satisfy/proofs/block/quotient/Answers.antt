@@ -1,5 +1,5 @@
 use Rattle.std.proofs.Common.{sym, arith}
-use Rattle.dt_satisfy.proofs.Powers.{quotient_zero}
+use Rattle.dt_lemmas.proofs.Powers.{quotient_zero}
 use Rattle.dt_satisfy.proofs.block.quotient.Goals as goal
 
 pub returns-else-exponent-lt128 : goal.returns-else-exponent-lt128

@@ -1,5 +1,5 @@
 use Rattle.std.proofs.Common.{sym, arith}
-use Rattle.dt_satisfy.proofs.Powers.{remainder_whole}
+use Rattle.dt_lemmas.proofs.Powers.{remainder_whole}
 use Rattle.dt_satisfy.proofs.block.remainder.Goals as goal
 
 pub returns-else-exponent-lt128 : goal.returns-else-exponent-lt128

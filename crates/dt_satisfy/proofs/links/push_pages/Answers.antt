@@ -1,8 +1,8 @@
 use Rattle.std.specs.Option.{option_to_list}
+use Rattle.dt_lemmas.proofs.Lists.{all_flat}
 use Rattle.dt_walk.specs.Walks.{RunData}
 use Rattle.dt_walk.specs.Walkers.{run_data}
 use Rattle.dt_satisfy.specs.Links.{page_of}
-use Rattle.dt_satisfy.proofs.Pushed.{all_flat}
 use Rattle.dt_satisfy.proofs.links.push_pages.Goals as goal
 
 pub returns : goal.returns

@@ -1,9 +1,9 @@
 use Rattle.std.proofs.Common.{map}
+use Rattle.dt_lemmas.proofs.Lists.{all_flat}
 use Rattle.dt_model.specs.Flow.{steps_of}
 use Rattle.dt_walk.specs.Walks.{RunData}
 use Rattle.dt_walk.specs.Walkers.{run_data}
 use Rattle.dt_satisfy.specs.Links.{table_of}
-use Rattle.dt_satisfy.proofs.Pushed.{all_flat}
 use Rattle.dt_satisfy.proofs.links.push_tables.Goals as goal
 
 pub returns : goal.returns

@@ -1,7 +1,7 @@
 use Rattle.std.proofs.Common.{◌∙◌, ap, arith}
 use Rattle.std.proofs.lemmas.Bool.{false≢true}
+use Rattle.dt_lemmas.proofs.Lists.{differ_at}
 use Rattle.dt_request.specs.declared.list.AccessWish.{AccessWish}
-use Rattle.dt_satisfy.proofs.Places.{differ_at}
 use Rattle.dt_satisfy.proofs.matching.have_contexts.Goals as goal
 
 pub returns-then-access-wishes : goal.returns-then-access-wishes

@@ -1,6 +1,6 @@
 use Rattle.std.proofs.Common.{◌≡◌, ◌++◌, map, take}
 use Rattle.dt_model.specs.Accepted.{accepted_data}
-use Rattle.dt_model.specs.Data.{tree_of}
+use Rattle.dt_model.specs.ModelData.{tree_of}
 use Rattle.dt_walk.specs.Meaning.{rule_holds}
 use Rattle.dt_satisfy.proofs.rules.push_access.Given as goal
 

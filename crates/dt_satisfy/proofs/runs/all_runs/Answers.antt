@@ -1,12 +1,12 @@
 use Rattle.std.proofs.Common.{◌≡◌, ◌<◌, List, map, get_or, length, refl, ap, ◌∙◌, subst}
 use Rattle.std.proofs.lemmas.List.{take_all}
+use Rattle.dt_lemmas.proofs.Lists.{each_at, one_mapped}
 use Rattle.dt_model.specs.Accepted.{accepted_data}
 use Rattle.dt_model.specs.Values.{FitNames}
 use Rattle.dt_walk.specs.Walkers.{run_data, walker_data}
 use Rattle.dt_image.specs.declared.image.ImageAccess.{ImageAccess}
 use Rattle.dt_satisfy.specs.Claims.{run_of}
-use Rattle.dt_satisfy.proofs.Pushed.{one_mapped}
-use Rattle.dt_satisfy.proofs.Places.{each_at, registers_at, run_made}
+use Rattle.dt_satisfy.proofs.Places.{registers_at, run_made}
 use Rattle.dt_satisfy.proofs.runs.all_runs.Goals as goal
 
 within : (c : goal.In_ok-push) → c.loop-access.access-index < length c.args.image.now.accesses

@@ -6,4 +6,4 @@ use Rattle.dt_satisfy.specs.Claims.{all_made}
 use Rattle.dt_satisfy.proofs.runs.push_demand_claims.Given as goal
 
 abbrev pub invariant-loop-i : goal.invariant-loop-i
-invariant-loop-i l = l.claims.items ≡ l.initial.claims.items ++ flat_map (λ p. map (meets p.0) p.1.demands) (take l.i (zip (all_made (accepted_data l.model) l.image) l.wishes))
+invariant-loop-i l = l.claims.items ≡ l.initial.claims.items ++ flat_map (λ p. map (meets p.0) p.1.demands) (take l.i (zip (all_made (accepted_data l._model) l.image) l.wishes))

@@ -1,31 +1,47 @@
-use Rattle.std.proofs.Common.{map, refl, inl, inr}
+use Rattle.std.proofs.Common.{map, rules, inr, refl}
 use Rattle.std.specs.String.{string_bytes}
-use Rattle.dt_top.specs.Table.{seen}
-use Rattle.dt_top.proofs.Exact.{came_due, due_answer, due_judgement}
+use Rattle.dt_top.specs.Replies.{bytes_of}
+use Rattle.dt_top.specs.Seen.{seen}
+use Rattle.dt_top.specs.commands.Jobs.{job_of}
 use Rattle.dt_top.specs.declared.status.Status.TheVariants as status
+use Rattle.dt_top.proofs.Exact.{comes_exactly, expected_image, expected_record, expected_yes, expected_unmet, row_quiet}
 use Rattle.dt_top.proofs.program.run.Goals as goal
 
+pub returns-clause-reads : goal.returns-clause-reads
+returns-clause-reads g c = λ a b.
+    row_quiet (seen g.S.Shelf.told g.S.Shelf.faults g.S.Shelf.taken g.S.Shelf.asked c.args.shelf.now c.reply-reply.new.shelf) (job_of (map string_bytes c.args.words.now))
+    c.reply-reply.result.status (bytes_of c.reply-reply.result.text) a c.reply-reply.ensures.row
+
 pub returns-clause-exact : goal.returns-clause-exact
-returns-clause-exact g c = λ files told quiet.
-    came_due (seen g.S.Shelf.told g.S.Shelf.faults g.S.Shelf.taken c.args.shelf.now c.perform.new.shelf) (map string_bytes c.args.words.now) files told quiet
-    c.perform.result (g.K.Sink.written c.args.sink.now) (g.K.Sink.written c.perform.new.sink) (g.K.Sink.pieces c.args.sink.now) (g.K.Sink.pieces c.perform.new.sink) c.perform.ensures.row
+returns-clause-exact g c = λ files told quiet due want d.
+    comes_exactly (seen g.S.Shelf.told g.S.Shelf.faults g.S.Shelf.taken g.S.Shelf.asked c.args.shelf.now c.reply-reply.new.shelf) files told quiet (map string_bytes c.args.words.now)
+    c.reply-reply.result.status (g.K.Sink.written c.args.sink.now) (g.K.Sink.written c.write_pieces.new.sink) (g.K.Sink.pieces c.args.sink.now) (g.K.Sink.pieces c.write_pieces.new.sink)
+    (λ n. (bytes_of c.reply-reply.result.text, c.reply-reply.ensures.row, search rules, search rules)) due want d
 
 pub returns-clause-headline : goal.returns-clause-headline
 returns-clause-headline g c = λ files d list told quiet asked.
     let words = map string_bytes c.args.words.now in
-    let comes = came_due (seen g.S.Shelf.told g.S.Shelf.faults g.S.Shelf.taken c.args.shelf.now c.perform.new.shelf) words files told quiet
-    c.perform.result (g.K.Sink.written c.args.sink.now) (g.K.Sink.written c.perform.new.sink) (g.K.Sink.pieces c.args.sink.now) (g.K.Sink.pieces c.perform.new.sink) c.perform.ensures.row in
+    let comes = comes_exactly (seen g.S.Shelf.told g.S.Shelf.faults g.S.Shelf.taken g.S.Shelf.asked c.args.shelf.now c.reply-reply.new.shelf) files told quiet words
+    c.reply-reply.result.status (g.K.Sink.written c.args.sink.now) (g.K.Sink.written c.write_pieces.new.sink) (g.K.Sink.pieces c.args.sink.now) (g.K.Sink.pieces c.write_pieces.new.sink)
+    (λ n. (bytes_of c.reply-reply.result.text, c.reply-reply.ensures.row, search rules, search rules)) in
     record {
-      met = λ z. comes status.Good (due_answer words files d list status.Good asked (inl (refl, z)));
-      unmet = λ z. comes status.Spent (due_answer words files d list status.Spent asked (inr (refl, z)));
+      met = λ z. comes status.Good _ (expected_image words files d list asked z);
+      unmet = λ z. comes status.Spent _ (expected_record words files d list asked z);
     }
 
 pub returns-clause-judge : goal.returns-clause-judge
 returns-clause-judge g c = λ files d list i told quiet asked.
     let words = map string_bytes c.args.words.now in
-    let comes = came_due (seen g.S.Shelf.told g.S.Shelf.faults g.S.Shelf.taken c.args.shelf.now c.perform.new.shelf) words files told quiet
-    c.perform.result (g.K.Sink.written c.args.sink.now) (g.K.Sink.written c.perform.new.sink) (g.K.Sink.pieces c.args.sink.now) (g.K.Sink.pieces c.perform.new.sink) c.perform.ensures.row in
+    let comes = comes_exactly (seen g.S.Shelf.told g.S.Shelf.faults g.S.Shelf.taken g.S.Shelf.asked c.args.shelf.now c.reply-reply.new.shelf) files told quiet words
+    c.reply-reply.result.status (g.K.Sink.written c.args.sink.now) (g.K.Sink.written c.write_pieces.new.sink) (g.K.Sink.pieces c.args.sink.now) (g.K.Sink.pieces c.write_pieces.new.sink)
+    (λ n. (bytes_of c.reply-reply.result.text, c.reply-reply.ensures.row, search rules, search rules)) in
     record {
-      met = λ z. comes status.Good (due_judgement words files d list i status.Good asked (inl (refl, z)));
-      unmet = λ z. comes status.No (due_judgement words files d list i status.No asked (inr (refl, z)));
+      met = λ z. comes status.Good _ (expected_yes words files d list i asked z);
+      unmet = λ z. let k = expected_unmet words files d list i asked z in (k.0, k.1, comes status.No _ k.2);
     }
+
+pub returns-in_default-clause-judge : goal.returns-in_default-clause-judge
+returns-in_default-clause-judge g c = λ files d list i told quiet asked. record {
+  met = λ z. inr (inr refl);
+  unmet = λ z. let k = expected_unmet (map string_bytes c.args.words.now) files d list i asked z in (k.0, k.1, inr (inr refl));
+}

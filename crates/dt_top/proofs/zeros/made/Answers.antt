@@ -2,7 +2,7 @@ use Rattle.std.proofs.Common.{◌≡◌, ℕ, ◌/◌, List, [], ap, sym, subst}
 use Rattle.dt_bits.specs.declared.memory.Word.{Word}
 use Rattle.dt_bits.specs.Memory.{IsMemory}
 use Rattle.dt_model.specs.Accepted.{accepted_data}
-use Rattle.dt_model.specs.Data.{Data}
+use Rattle.dt_model.specs.ModelData.{ModelData}
 use Rattle.dt_top.proofs.Zeroed.{zero_memory}
 use Rattle.dt_top.proofs.zeros.made.Goals as goal
 
@@ -13,5 +13,5 @@ memory_is w v lo hi words e n m =
 
 pub invariant_of-memory : goal.invariant_of-memory
 invariant_of-memory c =
-    memory_is _ _ _ _ _ (ap (λ (d : Data). d.word) c.model-m.ensures.same) c.new.ensures
+    memory_is _ _ _ _ _ (ap (λ (d : ModelData). d.word) c.model-m.ensures.same) c.new.ensures
     (zero_memory (accepted_data c.args.model.now) c.args.list.now c.model-m.ensures.accepted c.requires)

@@ -2,7 +2,7 @@ use Rattle.std.proofs.Common.{◌≡◌, ◌<◌, false, length, sym, ap, ◌∙
 use Rattle.dt_terms.specs.Terms.{IsTerm, is_choice}
 use Rattle.std.proofs.lemmas.Bool.{leb-false}
 use Rattle.dt_terms.specs.Problem.{most_terms}
-use Rattle.dt_terms.proofs.Adding.{problem_more}
+use Rattle.dt_terms.proofs.Additions.{problem_more}
 use Rattle.dt_terms.proofs.Choices.{choices_of-node}
 use Rattle.dt_terms.proofs.problem.Problem.add.Goals as goal
 

@@ -3,7 +3,7 @@ use Rattle.dt_terms.specs.declared.term.Term.TheVariants.{Choice}
 use Rattle.dt_terms.specs.Terms.{choices_of}
 use Rattle.std.proofs.lemmas.Bool.{leb-false}
 use Rattle.dt_terms.specs.Problem.{most_terms}
-use Rattle.dt_terms.proofs.Adding.{problem_more}
+use Rattle.dt_terms.proofs.Additions.{problem_more}
 use Rattle.dt_terms.proofs.Choices.{choices_of-choice}
 use Rattle.dt_terms.proofs.problem.Problem.add_choice.Goals as goal
 

@@ -1,5 +1,5 @@
 use Rattle.std.proofs.Common.{sym, ◌∙◌}
-use Rattle.dt_terms.proofs.Adding.{problem_none}
+use Rattle.dt_terms.proofs.Additions.{problem_none}
 use Rattle.dt_terms.proofs.Choices.{choices_of-none}
 use Rattle.dt_terms.proofs.problem.Problem.new.Goals as goal
 

@@ -1,0 +1,27 @@
+use Rattle.std.proofs.Common.{◌≡◌, ◌<◌, ◌∙◌, arith, subst, ap}
+use Rattle.std.proofs.lemmas.List.{get_or_read, get_or_default}
+use Rattle.dt_bits.specs.Bits.{width}
+use Rattle.dt_bits.specs.Ops.{arity_of}
+use Rattle.dt_terms.specs.declared.term.Term.TheVariants.{Choice, Node}
+use Rattle.dt_terms.specs.Terms.{term_at, width_of_term}
+use Rattle.dt_terms.proofs.Placed.{placed}
+use Rattle.dt_box.specs.Cells.{cell_at}
+use Rattle.dt_box.specs.Steps.{HasPlace}
+use Rattle.dt_box.proofs.Steps.{fitting_at}
+use Rattle.dt_box.proofs.propagation.narrowed_backward.Goals as goal
+
+pub narrowed_backward-requires-clause-fitting : goal.narrowed_backward-requires-clause-fitting
+narrowed_backward-requires-clause-fitting g c =
+    let D = g.row.D.Denot in
+    let ops = g.D.Domain.ops in
+    let h = c.requires.cells in
+    let n = c.in-Node in
+    let terms = c.args.terms.now in
+    let cells = c.args.cells.now in
+    let l = c.requires.step.0 in
+    let e : term_at terms c.args.parent ≡ Node n.op n.a n.b n.c n.width = get_or_default terms c.args.parent (Choice (width 1)) _ l ∙ n.is in
+    let k : c.args.place < arity_of n.op = subst (λ node. HasPlace node c.args.place) e c.requires.step.1 in
+    let p = placed terms c.args.parent n.op n.a n.b n.c n.width c.requires.terms l e in
+    let node : c.index-cells-parent.result ≡ cell_at ops cells c.args.parent = get_or_read cells c.args.parent _ (omega (arith, h.count, l)) c.index-cells-parent.is _ in
+    rw (node, c.operand_cell.ensures, c.operand_cell-in-Node.ensures, c.operand_cell-in-Node-2.ensures)
+    (fitting_at D ops g.met.D.Domain.laws terms c.requires.terms c.args.parent c.args.place n.op n.a n.b n.c n.width cells h p k l (ap width_of_term e))

@@ -1,0 +1,9 @@
+use Rattle.dt_pair.specs.Ops.{pair_ops}
+use Rattle.dt_box.specs.Cells.{AreCells}
+use Rattle.dt_cases.proofs.steps.take_lines.Given as goal
+
+abbrev pub invariant-loop-line : goal.invariant-loop-line
+invariant-loop-line l =
+    (goal.iterator-loop-line).can_next l.line-iterator ×
+    (goal.iterator-loop-line).is_finite l.line-iterator ×
+    AreCells pair_ops l.problem.terms l.cells

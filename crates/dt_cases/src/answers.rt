@@ -1,0 +1,55 @@
+//! Which call a case asks for, and its answer.
+use crate::parts::Case;
+use crate::stop::Stop;
+use crate::{claims, commands, images, lists, models, problems, sources, steps, walks};
+use std::alloc::{AllocError, Global};
+
+/// Calls on the texts of a model.
+fn push_of_model(alloc: Global, call: &str, case: Case, out: &mut String) -> Result<(), Stop> {
+    match call {
+        "check" => models::checked(alloc, case, out),
+        "nodes" => models::nodes(alloc, case, out),
+        "print" => models::printed(alloc, case, out),
+        "list" => lists::listed(alloc, case, out),
+        "image" => images::printed(alloc, case, out),
+        "walk" => walks::walks(alloc, case, out),
+        "rules" => walks::rules(alloc, case, out),
+        "judge" => claims::judged(alloc, case, out),
+        _ => Err(Stop::Unknown),
+    }
+}
+
+/// Writes what the call makes of the case.
+fn push_answer(alloc: Global, call: &str, case: Case, out: &mut String) -> Result<(), Stop> {
+    match call {
+        "lex" => sources::lexed(alloc, case, out),
+        "lines" => Ok(sources::lines(case, out)?),
+        "numbers" => Ok(sources::numbers(alloc, case, out)?),
+        "names" => Ok(sources::names(case, out)?),
+        "problem" => problems::answered(alloc, case, out),
+        "cells" => steps::answered(alloc, case, out),
+        "run" => commands::answered(alloc, case, out),
+        "measure" => commands::measured(alloc, case, out),
+        _ => push_of_model(alloc, call, case, out),
+    }
+}
+
+/// The line that says why there is no answer.
+fn push_stop(out: &mut String, stop: Stop) -> Result<(), AllocError> {
+    match stop {
+        Stop::Memory => out.push_str("memory ran out\n"),
+        Stop::Unknown => out.push_str("no such call\n"),
+        Stop::Refused { text, line, cause } => {
+            writeln!(out, "refused {text} line {line} {cause}")
+        }
+    }
+}
+
+/// What comes of the call on the texts of the case.
+pub fn answer(alloc: Global, call: &str, case: Case) -> Result<String, AllocError> {
+    let mut out = String::new(alloc);
+    if let Err(stop) = push_answer(alloc, call, case, &mut out) {
+        push_stop(&mut out, stop)?;
+    }
+    Ok(out)
+}

@@ -1,0 +1,87 @@
+//! Cases of the calls below, as texts: what a call makes of these texts, and what it must. The words
+//! of the program name files of cases. For each case it prints `NAME: ok`, or `NAME: differs` and
+//! what came in place of the expected answer; and at the end how many cases were ok, and how many
+//! differed.
+//!
+//! A file of cases has lines of these kinds:
+//!
+//! | line | what it is |
+//! |---|---|
+//! | `# ..`, or an empty one | nothing |
+//! | `text NAME` | begins a text that cases take up by its name |
+//! | `case NAME CALL` | begins a case |
+//! | `PART` or `PART PIECE` | begins a part of the case: `model`, `list`, `image` and others, and `expect` |
+//! | `\|LINE` | a piece of the text of the part above: this line, with its line feed |
+//! | `:TEXT` | a piece: this text, without a line feed |
+//! | `*N TEXT` | a piece: this text N times, without line feeds |
+//! | `<NAME` | a piece: the text of this name |
+//!
+//! In a piece `\t` is a tab, `\r` a carriage return, `\1` the byte 1, and `\\` a backslash. An answer
+//! is lines too; where a text is refused, it is the line that the program prints then.
+//!
+//! | call | parts | answer |
+//! |---|---|---|
+//! | `lex` | `source` | `lines N`, then for each token its line, its start and its end |
+//! | `lines` | `source` | its lines |
+//! | `numbers` | `source` | for each line the number that it spells, as it is printed |
+//! | `names` | `source` | for each line the name that it spells |
+//! | `check` | `model` | `accepted` |
+//! | `nodes` | `model` | the sizes, and for each node its kind and positions |
+//! | `print` | `model` | its printed text |
+//! | `list` | `model`, `list` | what the list has, by positions, and its choices with their bits |
+//! | `image` | `model`, `image` | its printed text |
+//! | `walk` | `model`, `image` | for each access its path, the sides that it took, its reads and its end |
+//! | `rules` | `model`, `image` | for each context and access the values of its rules |
+//! | `judge` | `model`, `list`, `image` | `satisfies`, `breaks K`, or `no match` |
+//! | `run` | `words W..`, `file NAME`.., `unread N..`, `unwritten N..` | `status S`, and what was written |
+//! | `measure` | the same | `status S`, and how many bytes were written |
+//! | `problem` | `problem` | an answer for each line, see `problems` |
+//! | `cells` | `problem`, `steps` | an answer for each step from the root cells, see `steps` |
+//!
+//! Proved: each call is made where its conditions hold, and the program ends. Only tested: all else,
+//! and so that these calls answer something other than that memory ran out where there is enough.
+#![tactic(auto)]
+
+mod answers;
+mod claims;
+mod commands;
+mod images;
+mod lists;
+mod models;
+mod operators;
+mod output;
+mod parts;
+mod problems;
+mod report;
+mod script;
+mod sources;
+mod spelling;
+mod steps;
+mod stop;
+mod walks;
+
+use crate::report::Report;
+use dt_edge::{FileShelf, OutSink, Sink};
+use std::env;
+use std::process::ExitCode;
+
+/// The report on the files that the words name.
+fn reported(rt: &HostRuntime) -> Option<Report> {
+    let mut shelf = FileShelf::new(rt);
+    let mut report = Report::new(rt.alloc());
+    for name in env::args(rt).ok()?.skip(1) {
+        report.add_file(rt.alloc(), &mut shelf, name.as_str()).ok()?;
+    }
+    report.end().ok()?;
+    Some(report)
+}
+
+fn main(rt: HostRuntime) -> ExitCode {
+    match reported(&rt) {
+        None => ExitCode::from(1),
+        Some(report) => match OutSink::new(&rt).write_all(report.text().as_bytes()) {
+            Ok(()) => ExitCode::SUCCESS,
+            Err(_) => ExitCode::from(2),
+        },
+    }
+}

@@ -1,6 +1,0 @@
-use Rattle.std.proofs.Common.{◌≡◌, drop}
-use Rattle.dt_image.specs.Reading.{all_fit}
-use Rattle.dt_image.proofs.judging.all_fit.Given as goal
-
-abbrev pub invariant-loop-i : goal.invariant-loop-i
-invariant-loop-i l = all_fit (drop l.i l.names) (drop l.i l.values) ≡ all_fit l.names l.values

@@ -1,0 +1,7 @@
+pub mod Lists
+pub mod Positions
+pub mod Options
+pub mod Booleans
+pub mod Numbers
+pub mod Moduli
+pub mod Powers

@@ -1,0 +1,210 @@
+-- What the stages of a command come to.
+use Rattle.std.proofs.Common.{◌≡◌, ℕ, ◌+◌, inl, inr, false, not, List, [], ◌∷◌, Option, Some, None, Ok, Err, refl, sym, ap, subst, ◌∙◌}
+use Rattle.std.specs.Prelude.{position, codes}
+use Rattle.dt_edge.specs.Told.{Told, Has}
+use Rattle.dt_model.specs.ModelData.{ModelData}
+use Rattle.dt_modeltext.specs.declared.fault.ModelFault.{ModelFault}
+use Rattle.dt_modeltext.specs.declared.fault.ModelFault.TheVariants as model
+use Rattle.dt_modeltext.specs.Read.{IsModelText, RefusesText}
+use Rattle.dt_modeltext.specs.Fault.{is_memory}
+use Rattle.dt_request.specs.declared.list.Requests.{Requests}
+use Rattle.dt_image.specs.declared.fault.ImageFault.{ImageFault}
+use Rattle.dt_image.specs.declared.fault.ImageFault.TheVariants as image
+use Rattle.dt_image.specs.declared.image.Image.{Image}
+use Rattle.dt_image.specs.Read.{reading}
+use Rattle.dt_image.specs.Fault.{is_memory as image_memory}
+use Rattle.std.specs.Bool.{OnFalse}
+use Rattle.dt_satisfy.specs.Claims.{claims}
+use Rattle.dt_satisfy.specs.Satisfies.{Matches, verdict_of}
+use Rattle.dt_satisfy.specs.declared.verdict.Judged.TheVariants as judged
+use Rattle.dt_top.specs.Course.{FileRead, Outcome, OnFile, Never}
+use Rattle.dt_modeltext.specs.Fault.{line_of as model_line, word_of as model_word}
+use Rattle.dt_image.specs.Fault.{line_of as image_line, word_of as image_word}
+use Rattle.dt_top.specs.Lines.{breaks_line, bad_line}
+use Rattle.dt_top.specs.Replies.{bytes_of, IsWant, IsRefusedLine}
+use Rattle.dt_top.specs.Seen.{seen, StaysShelf, Took, TookBoth}
+use Rattle.dt_top.specs.Stages.{IsRefusedModel, OnModel, IsRequests, IsNoRequests, OnRequests, IsMatching, OnImage, OnModelAndList}
+use Rattle.dt_top.specs.Table.{Ends, in_call, no_reads, Replies}
+use Rattle.dt_top.specs.commands.Replay.{Judging}
+use Rattle.dt_top.specs.declared.file.File.{File}
+use Rattle.dt_top.specs.declared.file.File.TheVariants as file
+use Rattle.dt_top.specs.declared.reply.Reply.{Reply}
+use Rattle.dt_top.specs.declared.status.Status.{Status}
+use Rattle.dt_top.specs.declared.status.Status.TheVariants as status
+use Rattle.dt_top.proofs.Ended.{ends_on, ends_as, ends_more, on_file, ends_after, ends_still, asks_more}
+
+-- ---- calls over bytes
+
+-- memory ran out
+pub replies_want : (c : List FileRead → Outcome → Type 0) (reply : Reply) → IsWant reply → Replies c reply.status (bytes_of reply.text)
+replies_want c reply w = ends_as no_reads c status.Memory reply.status [] (bytes_of reply.text) w.0 w.1 (tt, refl)
+
+-- a model's text that is refused
+refused_model : (bytes : List ℕ) (fault : ModelFault) (n : ℕ) → RefusesText bytes fault → (is_memory fault ≡ false → (d : ModelData) → IsModelText bytes d → ⊥)
+    → model_line fault ≡ Some n → IsRefusedModel bytes (bad_line (codes "model") n (model_word fault))
+refused_model bytes model.Memory n r none e = absurd cc
+refused_model bytes (model.Lex l) n r none e = record { none = none refl; fault = model.Lex l; number = n; refused = r; place = e; line = refl }
+refused_model bytes (model.Form m) n r none e = record { none = none refl; fault = model.Form m; number = n; refused = r; place = e; line = refl }
+refused_model bytes (model.Refused by m) n r none e = record { none = none refl; fault = model.Refused by m; number = n; refused = r; place = e; line = refl }
+
+pub replies_model : (bytes : List ℕ) (fault : ModelFault) (reply : Reply) → RefusesText bytes fault → (is_memory fault ≡ false → (d : ModelData) → IsModelText bytes d → ⊥)
+    → IsRefusedLine file.Model (model_line fault) (model_word fault) reply → Replies (OnModel bytes (λ d. Never)) reply.status (bytes_of reply.text)
+replies_model bytes fault reply r none (inl w) = replies_want (OnModel bytes (λ d. Never)) reply w
+replies_model bytes fault reply r none (inr h) =
+    ends_as no_reads (OnModel bytes (λ d. Never)) status.ModelRefused reply.status (bad_line (codes "model") h.0 (model_word fault)) (bytes_of reply.text) h.2 h.3
+    ([], inl (bad_line (codes "model") h.0 (model_word fault), refused_model bytes fault h.0 r none h.1, refl), refl)
+
+-- a list's text that is refused
+pub replies_list : (d : ModelData) (bytes : List ℕ) (reply : Reply) → IsNoRequests d bytes → reply.status ≡ status.RequestsRefused → bytes_of reply.text ≡ codes "refused requests\n"
+    → Replies (OnRequests d bytes (λ list. Never)) reply.status (bytes_of reply.text)
+replies_list d bytes reply none s t =
+    ends_as no_reads (OnRequests d bytes (λ list. Never)) status.RequestsRefused reply.status (codes "refused requests\n") (bytes_of reply.text) s t
+    ([], inl (none, refl), refl)
+
+image_known : (R : Type 0) (fault : ImageFault) (n : ℕ) → image_line fault ≡ Some n → OnFalse (image_memory fault) R → R
+image_known R image.Memory n e h = absurd cc
+image_known R (image.Lex l) n e h = h
+image_known R (image.Form m) n e h = h
+image_known R (image.Shape m) n e h = h
+image_known R (image.OutOfRange m) n e h = h
+image_known R (image.Order m) n e h = h
+
+-- an image's text that is refused
+pub replies_image : (d : ModelData) (list : Requests) (bytes : List ℕ) (fault : ImageFault) (reply : Reply) → OnFalse (image_memory fault) (reading d bytes ≡ Err fault)
+    → IsRefusedLine file.Image (image_line fault) (image_word fault) reply → Replies (OnImage d list bytes (λ i. Never)) reply.status (bytes_of reply.text)
+replies_image d list bytes fault reply r (inl w) = replies_want (OnImage d list bytes (λ i. Never)) reply w
+replies_image d list bytes fault reply r (inr h) =
+    ends_as no_reads (OnImage d list bytes (λ i. Never)) status.InputRefused reply.status (bad_line (codes "image") h.0 (image_word fault)) (bytes_of reply.text) h.2 h.3
+    ([], inl (bad_line (codes "image") h.0 (image_word fault), inl (fault, h.0, image_known (reading d bytes ≡ Err fault) fault h.0 h.1 r, h.1, refl), refl), refl)
+
+-- an image that doesn't match
+pub replies_mismatch : (d : ModelData) (list : Requests) (bytes : List ℕ) (i : Image) (reply : Reply) → reading d bytes ≡ Ok i → (Matches list i → ⊥)
+    → reply.status ≡ status.InputRefused → bytes_of reply.text ≡ codes "refused image shape\n" → Replies (OnImage d list bytes (λ i. Never)) reply.status (bytes_of reply.text)
+replies_mismatch d list bytes i reply e none s t =
+    ends_as no_reads (OnImage d list bytes (λ i. Never)) status.InputRefused reply.status (codes "refused image shape\n") (bytes_of reply.text) s t
+    ([], inl (codes "refused image shape\n", inr (i, e, none, refl), refl), refl)
+
+-- ---- the judge's verdict
+
+broken_at : (first : Option ℕ) (n : ℕ) → verdict_of first ≡ judged.Breaks n → (k : ℕ) × (first ≡ Some k) × (k + 1 ≡ n)
+broken_at None n e = absurd cc
+broken_at (Some k) n e = (k, refl, cc)
+
+pub replies_broken : (d : ModelData) (list : Requests) (i : Image) (n : ℕ) (reply : Reply) (text : List ℕ) → judged.Breaks n ≡ verdict_of (position not (claims d list i)) → text ≡ breaks_line n
+    → reply.status ≡ status.No → bytes_of reply.text ≡ text → Replies (Judging d list i) reply.status (bytes_of reply.text)
+replies_broken d list i n reply text v e s t =
+    let b = broken_at (position not (claims d list i)) n (sym v) in
+    ends_as no_reads (Judging d list i) status.No reply.status (breaks_line (b.0 + 1)) (bytes_of reply.text) s (t ∙ e ∙ ap breaks_line (sym b.2))
+    ([], inr (b.0, b.1, refl), refl)
+
+-- ---- stages that lead nowhere
+
+pub never_file : (kind : File) (name : List ℕ) (next : List ℕ → List FileRead → Outcome → Type 0) (files : List FileRead) (outcome : Outcome)
+    → OnFile kind name (λ bytes. Never) files outcome → OnFile kind name next files outcome
+never_file kind name next [] outcome h = h
+never_file kind name next (f ∷ files) outcome h = absurd h.2
+
+pub never_model : (bytes : List ℕ) (next : ModelData → List FileRead → Outcome → Type 0) (files : List FileRead) (outcome : Outcome)
+    → OnModel bytes (λ d. Never) files outcome → OnModel bytes next files outcome
+never_model bytes next files outcome (inl h) = inl h
+never_model bytes next files outcome (inr h) = absurd h.2
+
+pub never_list : (d : ModelData) (bytes : List ℕ) (next : Requests → List FileRead → Outcome → Type 0) (files : List FileRead) (outcome : Outcome)
+    → OnRequests d bytes (λ list. Never) files outcome → OnRequests d bytes next files outcome
+never_list d bytes next files outcome (inl h) = inl h
+never_list d bytes next files outcome (inr h) = absurd h.2
+
+pub never_image : (d : ModelData) (list : Requests) (bytes : List ℕ) (next : Image → List FileRead → Outcome → Type 0) (files : List FileRead) (outcome : Outcome)
+    → OnImage d list bytes (λ i. Never) files outcome → OnImage d list bytes next files outcome
+never_image d list bytes next files outcome (inl h) = inl h
+never_image d list bytes next files outcome (inr h) = absurd h.2
+
+pub never_both : (m r : List ℕ) (next : ModelData → Requests → List FileRead → Outcome → Type 0) (files : List FileRead) (outcome : Outcome)
+    → OnModelAndList m r (λ d list. Never) files outcome → OnModelAndList m r next files outcome
+never_both m r next files outcome h =
+    on_file file.Model m (λ bytes. OnModel bytes (λ d. OnFile file.Requests r (λ text. OnRequests d text (λ list. Never)))) (λ bytes. OnModel bytes (λ d. OnFile file.Requests r (λ text. OnRequests d text (next d))))
+    (λ bytes more out k. elim k [
+      | inl g ↦ inl g
+      | inr g ↦ inr (g.0, g.1, on_file file.Requests r (λ text. OnRequests g.0 text (λ list. Never)) (λ text. OnRequests g.0 text (next g.0)) (λ text. never_list g.0 text (next g.0)) more out g.2)
+    ]) files outcome h
+
+-- ---- parts of a call
+
+module _ {S : Type 0} (told : S → Told) (faults taken : S → ℕ) (asked : S → Option (List (List ℕ))) (steady : S → Type 0) where
+  -- a file was read, and its bytes decide
+  pub ends_read : (old mid new : S) → StaysShelf told faults taken steady old mid → (kind : File) (name bytes : List ℕ) → Took (seen told faults taken asked old mid) kind name bytes
+      → (rest : List (List ℕ)) (next : List ℕ → List FileRead → Outcome → Type 0) (came : Status) (text : List ℕ)
+      → Ends (in_call (seen told faults taken asked mid new) rest) (next bytes) came text
+      → Ends (in_call (seen told faults taken asked old new) (name ∷ rest)) (OnFile kind name next) came text
+  ends_read old mid new stays kind name bytes took rest next came text h =
+      ends_after told faults taken asked steady old mid new stays (record { name = name; bytes = bytes } ∷ []) (took.has, tt) took.asks took.quiet
+      rest (next bytes) (OnFile kind name next) (λ files outcome c. (refl, took.within, c)) came text h
+
+  -- a file was read, and its bytes have the reply
+  pub ends_reply : (old new : S) → StaysShelf told faults taken steady old new → (kind : File) (name bytes : List ℕ) → Took (seen told faults taken asked old new) kind name bytes
+      → (next : List ℕ → List FileRead → Outcome → Type 0) (came : Status) (text : List ℕ) → Replies (next bytes) came text
+      → Ends (in_call (seen told faults taken asked old new) (name ∷ [])) (OnFile kind name next) came text
+  ends_reply old new stays kind name bytes took next came text h =
+      ends_read old new new stays kind name bytes took [] next came text (ends_still told faults taken asked steady new [] (next bytes) came text h)
+
+  -- a file that gave nothing ends the command
+  pub ends_file : (old new : S) (kind : File) (name : List ℕ) (next : List ℕ → List FileRead → Outcome → Type 0) (came : Status) (text : List ℕ)
+      → Ends (in_call (seen told faults taken asked old new) (name ∷ [])) (OnFile kind name (λ bytes. Never)) came text
+      → Ends (in_call (seen told faults taken asked old new) (name ∷ [])) (OnFile kind name next) came text
+  ends_file old new kind name next came text h = ends_on _ (OnFile kind name (λ bytes. Never)) (OnFile kind name next) (never_file kind name next) came text h
+
+  -- a model's file that gave no model ends the command
+  pub ends_model : (old new : S) (m r : List ℕ) (came : Status) (text : List ℕ)
+      → Ends (in_call (seen told faults taken asked old new) (m ∷ [])) (OnFile file.Model m (λ bytes. OnModel bytes (λ d. Never))) came text
+      → Ends (in_call (seen told faults taken asked old new) (m ∷ r ∷ [])) (OnModelAndList m r (λ d list. Never)) came text
+  ends_model old new m r came text h =
+      ends_more (seen told faults taken asked old new) (m ∷ []) (r ∷ []) (OnModelAndList m r (λ d list. Never)) came text
+      (ends_on _ (OnFile file.Model m (λ bytes. OnModel bytes (λ d. Never))) (OnModelAndList m r (λ d list. Never))
+      (on_file file.Model m (λ bytes. OnModel bytes (λ d. Never)) (λ bytes. OnModel bytes (λ d. OnFile file.Requests r (λ text. OnRequests d text (λ list. Never))))
+      (λ bytes. never_model bytes (λ d. OnFile file.Requests r (λ text. OnRequests d text (λ list. Never))))) came text h)
+
+  -- and so does a list's file that gave no list, after a model
+  pub ends_list : (old mid new : S) → StaysShelf told faults taken steady old mid → (m r bytes : List ℕ) (d : ModelData) → Took (seen told faults taken asked old mid) file.Model m bytes → IsModelText bytes d
+      → (came : Status) (text : List ℕ) → Ends (in_call (seen told faults taken asked mid new) (r ∷ [])) (OnFile file.Requests r (λ b. OnRequests d b (λ list. Never))) came text
+      → Ends (in_call (seen told faults taken asked old new) (m ∷ r ∷ [])) (OnModelAndList m r (λ d list. Never)) came text
+  ends_list old mid new stays m r bytes d took is came text h =
+      ends_read old mid new stays file.Model m bytes took (r ∷ []) (λ b. OnModel b (λ d. OnFile file.Requests r (λ text. OnRequests d text (λ list. Never)))) came text
+      (ends_on _ (OnFile file.Requests r (λ b. OnRequests d b (λ list. Never))) (OnModel bytes (λ d. OnFile file.Requests r (λ text. OnRequests d text (λ list. Never))))
+      (λ files outcome c. inr (d, is, c)) came text h)
+
+  -- both files were read, and the rest of the command decides
+  pub ends_both : (old mid new : S) → StaysShelf told faults taken steady old mid → (m r : List ℕ) (d : ModelData) (list : Requests) → TookBoth (seen told faults taken asked old mid) m r d list
+      → (rest : List (List ℕ)) (next : ModelData → Requests → List FileRead → Outcome → Type 0) (came : Status) (text : List ℕ)
+      → Ends (in_call (seen told faults taken asked mid new) rest) (next d list) came text
+      → Ends (in_call (seen told faults taken asked old new) (m ∷ r ∷ rest)) (OnModelAndList m r next) came text
+  ends_both old mid new stays m r d list took rest next came text h =
+      ends_after told faults taken asked steady old mid new stays (record { name = m; bytes = took.bytes } ∷ record { name = r; bytes = took.text } ∷ []) took.has took.asks took.quiet
+      rest (next d list) (OnModelAndList m r next) (λ files outcome c. (refl, took.within, inr (d, took.accepted, (refl, took.within_text, inr (list, took.spelled, c))))) came text h
+
+  -- a command whose model and list weren't both found
+  pub ends_neither : (old new : S) (m r : List ℕ) (rest : List (List ℕ)) (next : ModelData → Requests → List FileRead → Outcome → Type 0) (came : Status) (text : List ℕ)
+      → Ends (in_call (seen told faults taken asked old new) (m ∷ r ∷ [])) (OnModelAndList m r (λ d list. Never)) came text
+      → Ends (in_call (seen told faults taken asked old new) (m ∷ r ∷ rest)) (OnModelAndList m r next) came text
+  ends_neither old new m r rest next came text h =
+      ends_more (seen told faults taken asked old new) (m ∷ r ∷ []) rest (OnModelAndList m r next) came text
+      (ends_on _ (OnModelAndList m r (λ d list. Never)) (OnModelAndList m r next) (never_both m r next) came text h)
+
+  pub took_both : (old mid new : S) → StaysShelf told faults taken steady old mid → (m r bytes text : List ℕ) (d : ModelData) (list : Requests)
+      → Took (seen told faults taken asked old mid) file.Model m bytes → IsModelText bytes d
+      → Took (seen told faults taken asked mid new) file.Requests r text → IsRequests d text list → TookBoth (seen told faults taken asked old new) m r d list
+  took_both old mid new stays m r bytes text d list one is two spelled = record {
+    bytes = bytes;
+    text = text;
+    has = (one.has, (subst (λ t. Has t r text) stays.told two.has, tt));
+    within = one.within;
+    within_text = two.within;
+    asks = asks_more (asked old) (asked mid) (asked new) (m ∷ []) (r ∷ []) one.asks two.asks;
+    quiet = two.quiet ∙ one.quiet;
+    accepted = is;
+    spelled = spelled;
+  }
+
+-- an image that matches, and what is said of it
+pub replies_matching : (d : ModelData) (list : Requests) (bytes : List ℕ) (i : Image) → IsMatching d list bytes i → (came : Status) (text : List ℕ)
+    → Replies (Judging d list i) came text → Replies (OnImage d list bytes (Judging d list)) came text
+replies_matching d list bytes i m came text h = ends_on no_reads (Judging d list i) (OnImage d list bytes (Judging d list)) (λ files outcome k. inr (i, m, k)) came text h

@@ -1,0 +1,14 @@
+use Rattle.dt_model.specs.Accepted.{accepted_data}
+use Rattle.dt_top.specs.Course.{Never}
+use Rattle.dt_top.specs.Replies.{bytes_of}
+use Rattle.dt_top.specs.Stages.{OnRequests}
+use Rattle.dt_top.specs.declared.file.File.TheVariants as file
+use Rattle.dt_top.proofs.Ended.{if_err}
+use Rattle.dt_top.proofs.Commanded.{ends_reply}
+use Rattle.dt_top.proofs.reading.list_file.Goals as goal
+
+pub returns-clause-refused : goal.returns-clause-refused
+returns-clause-refused g c =
+    if_err c.request_list.result
+    (λ reply r. ends_reply g.S.Shelf.told g.S.Shelf.faults g.S.Shelf.taken g.S.Shelf.asked g.S.Shelf.steady c.args.shelf.now c.read.new.shelf c.read.ensures.shelf file.Requests c.args.name.now c.in_ok-bytes.bytes.items c.in_ok-bytes.ensures.took
+    (λ bytes. OnRequests (accepted_data c.args.model.now) bytes (λ list. Never)) reply.status (bytes_of reply.text) (rw c.as_slice.ensures.value at r)) c.request_list.ensures.refused

@@ -1,0 +1,76 @@
+-- What the bytes of a file are to a command: a text that is refused with one line, or what it goes on with.
+use Rattle.std.specs.Prelude.{ℕ, ◌≡◌, ◌⊎◌, List, Some, Ok, Err, codes}
+use Rattle.dt_model.specs.ModelData.{ModelData}
+use Rattle.dt_modeltext.specs.declared.fault.ModelFault.{ModelFault}
+use Rattle.dt_modeltext.specs.Read.{IsModelText, RefusesText}
+use Rattle.dt_request.specs.Read.{reading as list_in}
+use Rattle.dt_request.specs.declared.list.Requests.{Requests}
+use Rattle.dt_image.specs.declared.fault.ImageFault.{ImageFault}
+use Rattle.dt_image.specs.declared.image.Image.{Image}
+use Rattle.dt_image.specs.Read.{reading}
+use Rattle.dt_satisfy.specs.Satisfies.{Matches}
+use Rattle.dt_top.specs.Lines.{bad_line}
+use Rattle.dt_modeltext.specs.Fault.{line_of as model_line, word_of as model_word}
+use Rattle.dt_image.specs.Fault.{line_of as image_line, word_of as image_word}
+use Rattle.dt_top.specs.Course.{FileRead, Outcome, Answered, OnFile}
+use Rattle.dt_top.specs.declared.file.File.TheVariants as file
+use Rattle.dt_top.specs.declared.status.Status.TheVariants as status
+
+-- ---- a model
+
+-- the bytes are no text of an accepted model
+abbrev pub IsNoModel : List ℕ → Type 0
+IsNoModel bytes = (d : ModelData) → IsModelText bytes d → ⊥
+
+-- they have a first bad line, or the check refuses the model that they spell, and this is the line that says so
+pub record IsRefusedModel (bytes text : List ℕ) : Type 0 where
+  pub none : IsNoModel bytes
+  pub fault : ModelFault
+  pub number : ℕ
+  pub refused : RefusesText bytes fault
+  pub place : model_line fault ≡ Some number
+  pub line : text ≡ bad_line (codes "model") number (model_word fault)
+
+abbrev pub OnModel : List ℕ → (ModelData → List FileRead → Outcome → Type 0) → List FileRead → Outcome → Type 0
+OnModel bytes next files outcome =
+    ((text : List ℕ) × IsRefusedModel bytes text × Answered status.ModelRefused text files outcome)
+    ⊎ ((d : ModelData) × IsModelText bytes d × next d files outcome)
+
+-- ---- a request list
+
+-- the bytes are a text of this list for the model
+abbrev pub IsRequests : ModelData → List ℕ → Requests → Type 0
+IsRequests d bytes list = list_in d bytes ≡ Ok list
+
+-- the bytes are no text of a list for the model
+abbrev pub IsNoRequests : ModelData → List ℕ → Type 0
+IsNoRequests d bytes = (list : Requests) → IsRequests d bytes list → ⊥
+
+abbrev pub OnRequests : ModelData → List ℕ → (Requests → List FileRead → Outcome → Type 0) → List FileRead → Outcome → Type 0
+OnRequests d bytes next files outcome =
+    (IsNoRequests d bytes × Answered status.RequestsRefused (codes "refused requests\n") files outcome)
+    ⊎ ((list : Requests) × IsRequests d bytes list × next list files outcome)
+
+-- ---- an image that matches a list
+
+-- the bytes are the text of this image, which matches the list
+pub record IsMatching (d : ModelData) (list : Requests) (bytes : List ℕ) (i : Image) : Type 0 where
+  pub spelled : reading d bytes ≡ Ok i
+  pub matches : Matches list i
+
+-- the bytes have a first bad line, or are the text of an image that doesn't match, and this is the line that says so
+abbrev pub IsRefusedImage : ModelData → Requests → List ℕ → List ℕ → Type 0
+IsRefusedImage d list bytes text =
+    ((fault : ImageFault) × (number : ℕ) × (reading d bytes ≡ Err fault) × (image_line fault ≡ Some number) × (text ≡ bad_line (codes "image") number (image_word fault)))
+    ⊎ ((i : Image) × (reading d bytes ≡ Ok i) × (Matches list i → ⊥) × (text ≡ codes "refused image shape\n"))
+
+abbrev pub OnImage : ModelData → Requests → List ℕ → (Image → List FileRead → Outcome → Type 0) → List FileRead → Outcome → Type 0
+OnImage d list bytes next files outcome =
+    ((text : List ℕ) × IsRefusedImage d list bytes text × Answered status.InputRefused text files outcome)
+    ⊎ ((i : Image) × IsMatching d list bytes i × next i files outcome)
+
+-- ---- the files of a model and a list, of which many commands begin
+
+abbrev pub OnModelAndList : List ℕ → List ℕ → (ModelData → Requests → List FileRead → Outcome → Type 0) → List FileRead → Outcome → Type 0
+OnModelAndList model requests next =
+    OnFile file.Model model (λ bytes. OnModel bytes (λ d. OnFile file.Requests requests (λ text. OnRequests d text (next d))))

@@ -1,0 +1,4 @@
+-- The commands: which of them words ask for, the files that it reads in order, and how it goes.
+pub mod Solve
+pub mod Replay
+pub mod Jobs

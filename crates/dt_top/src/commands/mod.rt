@@ -1,0 +1,54 @@
+// The commands.
+ghost use Rattle.std.specs.Prelude.{◌≡◌, map};
+ghost use Rattle.std.specs.Option.{option_map};
+ghost use Rattle.std.specs.String.{string_bytes};
+ghost use Rattle.dt_top.specs.Replies.{bytes_of};
+ghost use Rattle.dt_top.specs.Seen.{seen, StaysShelf};
+ghost use Rattle.dt_top.specs.Table.{in_call, Ends};
+ghost use Rattle.dt_top.specs.commands.Jobs.{job_of, asked, files_of, Doing};
+
+mod replay;
+mod solve;
+
+use crate::reply::Reply;
+use dt_edge::Shelf;
+pub use replay::{ReplayJob, image_reply};
+pub use solve::{SolveJob, solve_reply};
+use std::alloc::Global;
+
+/// A command with its words.
+#[derive(Clone, Copy)]
+pub enum Job<'a> {
+    /// `solve` without splits.
+    Solve(SolveJob<'a>),
+    /// `replay` of an image.
+    Replay(ReplayJob<'a>),
+}
+
+impl<'a> Job<'a> {
+    /// The job that the words ask for, where they have the form of one. It takes no memory.
+    pub fn parse(words: &'a [String]) -> Option<Job<'a>>
+        ensures { option_map asked result ≡ job_of (map string_bytes words.now) }
+    {
+        match words {
+            [command, words @ ..] => match command.as_str() {
+                "solve" => solve::form(words).map(Job::Solve),
+                "replay" => replay::form(words).map(Job::Replay),
+                _ => None,
+            },
+            [] => None,
+        }
+    }
+}
+
+/// Does a job: reads its files, and makes the reply.
+pub fn perform<S: Shelf>(alloc: Global, shelf: &mut S, job: Job<'_>) -> Reply
+    ensures shelf { StaysShelf S.told S.faults S.taken S.steady shelf.old shelf.new }
+    ensures ends { Ends (in_call (seen S.told S.faults S.taken S.asked shelf.old shelf.new)
+        (files_of (asked job.entry))) (Doing (asked job.entry)) result.status (bytes_of result.text) }
+{
+    match job {
+        Job::Solve(job) => solve::perform(alloc, shelf, job),
+        Job::Replay(job) => replay::perform(alloc, shelf, job),
+    }
+}
