@@ -6,3 +6,4 @@ pub mod Words
 pub mod Roots
 pub mod Stillness
 pub mod Knowledge
+pub mod Trails

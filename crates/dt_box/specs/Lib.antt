@@ -4,3 +4,4 @@ pub mod Changes
 pub mod Stillness
 pub mod Neighbours
 pub mod Assignments
+pub mod Trails

@@ -1,8 +1,9 @@
 use crate::change::{change_of, put};
 use crate::propagation::{narrowed, target};
 use crate::root::{full_cells, require_ones};
-use crate::sweep::{first_empty, first_step, tells};
-use crate::{Changed, Step};
+use crate::sweep::{first_empty, first_step, step_from, tells};
+use crate::trail::{keep, undo_to};
+use crate::{Changed, Step, Trail};
 use dt_bits::NoMemory;
 use dt_domain::Domain;
 use dt_terms::Problem;
@@ -33,13 +34,15 @@ impl<D: Domain> Model for Cells<D> {
 }
 
 impl<D: Domain> Cells<D> {
-    ghost use Rattle.std.specs.Prelude.{◌≡◌, ◌<◌, length, IsTrue, IfOk, IfSome, IfNone, MatchOption};
+    ghost use Rattle.std.specs.Prelude.{◌≡◌, ◌<◌, ◌≤◌, length, take, All, IsTrue, IfOk, IfSome, IfNone, MatchOption, OnOk, OnErr};
+    ghost use Rattle.std.specs.Prelude.{length as count};
     ghost use Rattle.std.specs.List.{position_from};
     ghost use Rattle.dt_terms.specs.Terms.{bits_at};
     ghost use Rattle.dt_box.specs.Cells.{AreCells, cell_at, root_cells};
     ghost use Rattle.dt_box.specs.Steps.{IsStep, target, narrowed, after_step, after_bit};
     ghost use Rattle.dt_box.specs.Changes.{IsChange};
-    ghost use Rattle.dt_box.specs.Stillness.{HasNoEmpty, IsSettled, tells, TellsNew};
+    ghost use Rattle.dt_box.specs.Stillness.{HasNoEmpty, IsSettled, IsStillAt, tells, TellsNew};
+    ghost use Rattle.dt_box.specs.Trails.{back, with_change, IsKept};
 
     /// The cells of what is known at first: each holds every number of its term's width, and the
     /// cell of a term that must be 1 holds 1 alone.
@@ -92,6 +95,31 @@ impl<D: Domain> Cells<D> {
         put(&mut self.cells[target(terms, step) as usize], narrowed)
     }
 
+    /// Takes a step as `apply` does, and keeps in the trail what the target's cell was, unless the
+    /// answer is `No`. Without memory for that, cells and trail stay.
+    pub fn apply_kept(
+        &mut self,
+        problem: &Problem,
+        step: Step,
+        trail: &mut Trail<D>,
+    ) -> Result<Changed, NoMemory>
+        requires cells { AreCells D.ops problem.now.terms self.old }
+        requires step { IsStep problem.now.terms step }
+        ensures cells { OnOk result (self.new ≡ after_step D.ops problem.now.terms step self.old) }
+        ensures change { IfOk result (λ changed. IsChange D.ops (cell_at D.ops self.old (target problem.now.terms step)) (narrowed D.ops problem.now.terms step self.old) changed) }
+        ensures trail { IfOk result (λ changed. trail.new ≡ with_change changed (target problem.now.terms step) (cell_at D.ops self.old (target problem.now.terms step)) trail.old) }
+        ensures err { OnErr result ((self.new ≡ self.old) × (trail.new ≡ trail.old)) }
+        ensures are { AreCells D.ops problem.now.terms self.new }
+        ensures kept { IsKept self.old trail.old self.new trail.new }
+    {
+        trail.changes.reserve(1)?;
+        let at = target(problem.terms.as_slice(), step);
+        let old = self.cells[at as usize];
+        let changed = self.apply(problem, step);
+        keep(&mut trail.changes, changed, at, old);
+        Ok(changed)
+    }
+
     /// Sets a bit of the term at a position: its cell becomes the one that holds what it held with
     /// the bit so; all others stay. The answer says what became of that cell. It takes no memory.
     pub fn set_bit(&mut self, problem: &Problem, term: u32, bit: u32, value: bool) -> Changed
@@ -108,6 +136,44 @@ impl<D: Domain> Cells<D> {
         let changed = change_of(cell, &new);
         *cell = new;
         changed
+    }
+
+    /// Sets a bit as `set_bit` does, and keeps in the trail what the cell was, unless the answer is
+    /// `No`. Without memory for that, cells and trail stay.
+    pub fn set_bit_kept(
+        &mut self,
+        problem: &Problem,
+        term: u32,
+        bit: u32,
+        value: bool,
+        trail: &mut Trail<D>,
+    ) -> Result<Changed, NoMemory>
+        requires cells { AreCells D.ops problem.now.terms self.old }
+        requires term { term < length problem.now.terms }
+        requires bit { bit < bits_at problem.now.terms term }
+        ensures cells { OnOk result (self.new ≡ after_bit D.ops term bit value self.old) }
+        ensures change { IfOk result (λ changed. IsChange D.ops (cell_at D.ops self.old term) (D.ops.with_bit (cell_at D.ops self.old term) bit value) changed) }
+        ensures trail { IfOk result (λ changed. trail.new ≡ with_change changed term (cell_at D.ops self.old term) trail.old) }
+        ensures err { OnErr result ((self.new ≡ self.old) × (trail.new ≡ trail.old)) }
+        ensures are { AreCells D.ops problem.now.terms self.new }
+        ensures kept { IsKept self.old trail.old self.new trail.new }
+    {
+        trail.changes.reserve(1)?;
+        let old = self.cells[term as usize];
+        let changed = self.set_bit(problem, term, bit, value);
+        keep(&mut trail.changes, changed, term, old);
+        Ok(changed)
+    }
+
+    /// The cells become what they were when the trail had this many pairs, and the trail keeps
+    /// these. It takes no memory, and a write for each pair that goes.
+    pub fn undo(&mut self, trail: &mut Trail<D>, length: u64)
+        requires length { length ≤ count trail.old }
+        requires terms { All (λ change. change.0 < count self.old) trail.old }
+        ensures cells { self.new ≡ back self.old trail.old length }
+        ensures trail { trail.new ≡ take length trail.old }
+    {
+        undo_to(&mut self.cells, &mut trail.changes, length as usize);
     }
 
     /// The position of the first empty cell; None exactly where no cell is empty. It takes no
@@ -128,6 +194,16 @@ impl<D: Domain> Cells<D> {
         ensures { result ≡ tells D.ops problem.now.terms step self.now }
     {
         tells(problem.terms.as_slice(), &self.cells, step)
+    }
+
+    /// A step of the term at a position that would empty a cell or make a further bit known; None
+    /// exactly where it has no such step. It takes no memory.
+    pub fn unsettled_at(&self, problem: &Problem, term: u32) -> Option<Step>
+        requires cells { AreCells D.ops problem.now.terms self.now }
+        requires term { term < length problem.now.terms }
+        ensures { MatchOption result (IsStillAt D.ops problem.now.terms term self.now) (λ step. TellsNew D.ops problem.now.terms step self.now) }
+    {
+        step_from(problem.terms.as_slice(), &self.cells, term)
     }
 
     /// A step that would empty a cell or make a further bit known; None exactly where the cells are

@@ -29,7 +29,9 @@ mod propagation;
 mod root;
 mod step;
 mod sweep;
+mod trail;
 
 pub use cells::Cells;
 pub use laws::{keeps_assignments, steps_are_local};
 pub use step::{Changed, Step};
+pub use trail::Trail;

@@ -1,3 +1,4 @@
+use crate::propagation::target;
 use dt_bits::arity;
 use dt_terms::{Problem, Term};
 
@@ -12,8 +13,16 @@ pub enum Step {
 }
 
 impl Step {
-    ghost use Rattle.std.specs.Prelude.{◌↔◌, IsTrue};
-    ghost use Rattle.dt_box.specs.Steps.{IsStep};
+    ghost use Rattle.std.specs.Prelude.{◌≡◌, ◌↔◌, IsTrue};
+    ghost use Rattle.dt_box.specs.Steps.{IsStep, target};
+
+    /// The term whose cell the step narrows.
+    pub fn target(self, problem: &Problem) -> u32
+        requires { IsStep problem.now.terms self }
+        ensures { result ≡ target problem.now.terms self }
+    {
+        target(problem.terms.as_slice(), self)
+    }
 
     /// Whether this is a step of the problem: its term or parent is a node, and its place is below
     /// the operator's number of operands.

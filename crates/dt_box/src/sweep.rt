@@ -56,7 +56,7 @@ fn backward_from<D: Domain>(terms: &[Term], cells: &[D], parent: u32, places: u3
 }
 
 // The first step from the term at a position that tells something new.
-fn step_from<D: Domain>(terms: &[Term], cells: &[D], term: u32) -> Option<Step>
+pub(crate) fn step_from<D: Domain>(terms: &[Term], cells: &[D], term: u32) -> Option<Step>
     requires terms { AreTerms terms.now }
     requires cells { AreCells D.ops terms.now cells.now }
     requires term { term < length terms.now }
