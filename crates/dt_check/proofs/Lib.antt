@@ -1,0 +1,14 @@
+pub mod Decided
+pub mod Refuted
+pub mod Counting
+pub mod Bound
+pub mod Testing
+pub mod Passing
+pub mod Verdicts
+pub mod Waiting
+pub mod Drafts
+pub mod Along
+pub mod Sweeping
+pub mod Overwriting
+pub mod Checking
+pub mod Loop

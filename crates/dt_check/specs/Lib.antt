@@ -1,0 +1,11 @@
+pub mod Trials
+pub mod Sound
+pub mod Records
+pub mod Unknown
+pub mod Tests
+pub mod Reading
+pub mod Accepting
+pub mod Waiting
+pub mod Laws
+pub mod Along
+pub mod Checking
