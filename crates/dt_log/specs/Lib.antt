@@ -1,5 +1,6 @@
 pub mod Trees
 pub mod Shapes
+pub mod Exact
 pub mod Packing
 pub mod Fault
 pub mod Entry

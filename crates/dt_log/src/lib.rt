@@ -4,6 +4,7 @@
 mod draft;
 mod entry;
 mod fault;
+mod laws;
 mod line;
 mod lines;
 mod log;
@@ -14,6 +15,7 @@ mod written;
 
 pub use draft::Draft;
 pub use fault::LogFault;
+pub use laws::trees_are_read;
 pub use line::{Claim, Line};
 pub use lines::Lines;
 pub use log::Log;
