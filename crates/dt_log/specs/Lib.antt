@@ -1,3 +1,11 @@
 pub mod Trees
 pub mod Shapes
+pub mod Exact
 pub mod Packing
+pub mod Fault
+pub mod Entry
+pub mod Written
+pub mod Read
+pub mod Laws
+pub mod Print
+pub mod Small

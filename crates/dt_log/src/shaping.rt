@@ -1,4 +1,4 @@
-ghost use Rattle.std.specs.Prelude.{◌≡◌, ◌<◌, ◌≤◌, ◌+◌, ◌^◌, Some, None, MatchOption};
+ghost use Rattle.std.specs.Prelude.{◌≡◌, ◌<◌, ◌≤◌, ◌+◌, ◌^◌, Some, None, MatchOption, IfSome, length};
 ghost use Rattle.dt_log.specs.Shapes.{shape, plain, after_line, first_wrong};
 
 use crate::line::Line;
@@ -58,7 +58,8 @@ fn after(awaited: Awaited, line: Line) -> Option<Awaited>
 // The position, from 1, of the first line where no tree can go on, or one past the last where the
 // tree isn't ended; None where the lines are one tree.
 pub(crate) fn first_wrong(lines: &Lines) -> Option<usize>
-    ensures { result ≡ first_wrong lines.now }
+    ensures first { result ≡ first_wrong lines.now }
+    ensures near { IfSome result (λ item. item ≤ length lines.now + 1) }
 {
     let mut awaited = Awaited {
         trees: 1,

@@ -4,8 +4,8 @@ use Rattle.dt_log.specs.Shapes.{shape}
 use Rattle.dt_log.proofs.Awaiting.{opened_none, opened_some, ended, went_none, went_some, went_all, wrong_at, wrong_none}
 use Rattle.dt_log.proofs.shaping.first_wrong.Goals as goal
 
-pub returns-in-None : goal.returns-in-None
-returns-in-None c =
+pub returns-in-None-clause-first : goal.returns-in-None-clause-first
+returns-in-None-clause-first c =
     let s = shape c.loop-i.awaited.trees c.loop-i.awaited.trying in
     let within = c.loop-i-test.true in
     let at = sym c.at.ensures in
@@ -29,14 +29,14 @@ loop-i-preserved c =
 pub after-requires : goal.after-requires
 after-requires c = omega (arith, c.loop-i.invariant.most, c.loop-i-test.true, c.len-i-end.ensures.few)
 
-pub returns-then-awaited-eq0 : goal.returns-then-awaited-eq0
-returns-then-awaited-eq0 c =
+pub returns-then-awaited-eq0-clause-first : goal.returns-then-awaited-eq0-clause-first
+returns-then-awaited-eq0-clause-first c =
     let past : length c.args.lines.now ≤ c.loop-i.i = omega (arith, c.loop-i-test.false, c.len-i-end.ensures.count) in
     let e = c.if-awaited-eq0.true in
     wrong_none c.args.lines.now (sym c.loop-i.invariant.same ∙ ended c.loop-i.awaited.trees c.loop-i.awaited.trying c.args.lines.now c.loop-i.i past ∙ eq-eqb c.loop-i.awaited.trees 0 e)
 
-pub returns-else-awaited-eq0 : goal.returns-else-awaited-eq0
-returns-else-awaited-eq0 c =
+pub returns-else-awaited-eq0-clause-first : goal.returns-else-awaited-eq0-clause-first
+returns-else-awaited-eq0-clause-first c =
     let past : length c.args.lines.now ≤ c.loop-i.i = omega (arith, c.loop-i-test.false, c.len-i-end.ensures.count) in
     let all : c.loop-i.i ≡ c.len.result = omega (arith, c.loop-i-test.false, c.loop-i.auto.i-end, c.len-i-end.ensures.count, c.len.ensures.count) in
     let gone = went_all (shape c.loop-i.awaited.trees c.loop-i.awaited.trying) c.args.lines.now c.loop-i.i past in
