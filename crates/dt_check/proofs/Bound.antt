@@ -214,6 +214,26 @@ module _ (D : Type 0) (ops : DomainOps D) (laws : DomainLaws ops) where
     empty_loose unvisited cells h e s a f = absurd (false≢true f)
     empty_loose (split tries t i zeros ones) cells h e s a f = held_not cells e a.0.settled.held
 
+    -- required terms are known to be 1 in the root cells
+    pub root_required : AreRequiredKnown D ops laws p (root_cells ops p)
+    unfolding AreRequiredKnown
+    root_required t l e =
+        let v : Bv = record { width = width 1; bits = 1 } in
+        let is : IsValue v = ((omega arith, omega arith), omega arith) in
+        let k = laws.one_known v is in
+        let w = laws.one_is v is in
+        let mask : bit (ops.known_mask (certain ops)) 0 ≡ true = ap (λ m. bit m 0) (k.1 ∙ ap (λ n. 2 ^ n - 1) (ap (λ x. x.0) w.1)) ∙ bit_of_ones 1 0 (omega arith) in
+        let value : bit (ops.known_value (certain ops)) 0 ≡ true = sym (held_bit D ops laws (certain ops) 1 0 w.0 ((laws.one_holds v 1 is).1 refl) mask) ∙ bit_of_small 1 (omega arith) in
+        let cell : cell_at ops (root_cells ops p) t ≡ certain ops = root_cell_at D ops p t l ∙ ap (λ b. cond b (certain ops) (ops.full (width_of_term (term_at p.terms t)))) e in
+        subst (λ d. KnowsBit ops d 0 true) (sym cell) (mask, value)
+
+    -- where all bits of all choices are known, what is tried at settled cells solves the problem
+    pub decided_trial : (cells : List D) (tries : List (ℕ × ℕ)) → AreCells ops p.terms cells → AreRequiredKnown D ops laws p cells → IsSettled ops p.terms cells → unknown_bits ops p.terms cells ≡ 0
+        → AllByRecursion (IsTry ops p.terms cells) tries → solves p (tried ops p.terms cells tries) ≡ true
+    decided_trial cells tries h r s e a =
+        let c = tried_holds p.terms problem.terms cells tries h s.held a in
+        decided_solves D ops laws p cells (tried ops p.terms cells tries) problem h s (held_assignment p.terms problem.terms cells (tried ops p.terms cells tries) h c) c (none_unknown p.terms problem.terms cells e) r
+
     module _ (decides : DecidingLaws ops) where
       -- a step leaves no more bits unknown
       step_small : (s : Step) (cells : List D) (m : ℕ) → AreCells ops p.terms cells → IsStep p.terms s → HasNoEmpty ops (after_step ops p.terms s cells)
@@ -382,18 +402,6 @@ module _ (D : Type 0) (ops : DomainOps D) (laws : DomainLaws ops) where
       first_less (loose tries) cells h n r s a f = less (loose tries) cells h n r s a f
       first_less unvisited cells h n r s a f = less unvisited cells h n r s a f
       first_less (split tries t i zeros ones) cells h n r s a f = less (split tries t i zeros ones) cells h n r s a f
-
-      pub root_required : AreRequiredKnown D ops laws p (root_cells ops p)
-      unfolding AreRequiredKnown
-      root_required t l e =
-          let v : Bv = record { width = width 1; bits = 1 } in
-          let is : IsValue v = ((omega arith, omega arith), omega arith) in
-          let k = laws.one_known v is in
-          let w = laws.one_is v is in
-          let mask : bit (ops.known_mask (certain ops)) 0 ≡ true = ap (λ m. bit m 0) (k.1 ∙ ap (λ n. 2 ^ n - 1) (ap (λ x. x.0) w.1)) ∙ bit_of_ones 1 0 (omega arith) in
-          let value : bit (ops.known_value (certain ops)) 0 ≡ true = sym (held_bit D ops laws (certain ops) 1 0 w.0 ((laws.one_holds v 1 is).1 refl) mask) ∙ bit_of_small 1 (omega arith) in
-          let cell : cell_at ops (root_cells ops p) t ≡ certain ops = root_cell_at D ops p t l ∙ ap (λ b. cond b (certain ops) (ops.full (width_of_term (term_at p.terms t)))) e in
-          subst (λ d. KnowsBit ops d 0 true) (sym cell) (mask, value)
 
       -- a record has fewer splits than two to the number of bits of choices that aren't known at its
       -- first item that is no step, less 1
