@@ -1,6 +1,5 @@
 // The program over an output that tells its pieces.
-use crate::program::run;
-use crate::status::Status;
+use dt_top::{Status, run};
 use dt_bits::NoMemory;
 use dt_edge::{MemoryShelf, Sink, SinkFault};
 

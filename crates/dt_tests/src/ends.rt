@@ -1,4 +1,4 @@
-use super::*;
+use dt_edge::{MemoryShelf, MemorySink, Shelf, ShelfFault, Sink, SinkFault};
 use dt_bits::NoMemory;
 
 fn is_read(read: Result<Vec<u8>, ShelfFault>, want: &[u8]) -> bool {
