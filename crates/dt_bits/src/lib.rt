@@ -19,8 +19,6 @@ mod memory;
 mod no_memory;
 mod op;
 mod seq;
-#[cfg(test)]
-mod tests;
 mod value;
 
 pub use applying::{apply, extended, joined};

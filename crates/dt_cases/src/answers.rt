@@ -1,7 +1,7 @@
 //! Which call a case asks for, and its answer.
-use crate::parts::Case;
 use crate::stop::Stop;
-use crate::{claims, commands, images, lists, models, problems, sources, steps, walks};
+use crate::{claims, commands, images, lists, models, sources, walks};
+use dt_script::{Calls, Case};
 use std::alloc::{AllocError, Global};
 
 /// Calls on the texts of a model.
@@ -26,8 +26,6 @@ fn push_answer(alloc: Global, call: &str, case: Case, out: &mut String) -> Resul
         "lines" => Ok(sources::lines(case, out)?),
         "numbers" => Ok(sources::numbers(alloc, case, out)?),
         "names" => Ok(sources::names(case, out)?),
-        "problem" => problems::answered(alloc, case, out),
-        "cells" => steps::answered(alloc, case, out),
         "run" => commands::answered(alloc, case, out),
         "measure" => commands::measured(alloc, case, out),
         _ => push_of_model(alloc, call, case, out),
@@ -45,11 +43,15 @@ fn push_stop(out: &mut String, stop: Stop) -> Result<(), AllocError> {
     }
 }
 
-/// What comes of the call on the texts of the case.
-pub fn answer(alloc: Global, call: &str, case: Case) -> Result<String, AllocError> {
-    let mut out = String::new(alloc);
-    if let Err(stop) = push_answer(alloc, call, case, &mut out) {
-        push_stop(&mut out, stop)?;
+/// The calls of this program.
+pub struct Answers;
+
+impl Calls for Answers {
+    fn answer(alloc: Global, call: &str, case: Case) -> Result<String, AllocError> {
+        let mut out = String::new(alloc);
+        if let Err(stop) = push_answer(alloc, call, case, &mut out) {
+            push_stop(&mut out, stop)?;
+        }
+        Ok(out)
     }
-    Ok(out)
 }

@@ -6,12 +6,12 @@ ghost use Rattle.dt_image.specs.Images.{IsImage};
 use crate::images::image;
 use crate::lists::list;
 use crate::models::model;
-use crate::parts::Case;
 use crate::stop::Stop;
 use dt_image::Image;
 use dt_model::Accepted;
 use dt_request::Requests;
 use dt_satisfy::{Judged, judge, matches};
+use dt_script::Case;
 use std::alloc::{AllocError, Global};
 
 fn push_judged(out: &mut String, judged: Judged) -> Result<(), AllocError> {

@@ -1,8 +1,8 @@
 //! The program over files in memory.
 use crate::output::push_bytes;
-use crate::parts::Case;
 use crate::stop::Stop;
 use dt_edge::{MemoryShelf, MemorySink};
+use dt_script::Case;
 use dt_top::run;
 use std::alloc::{AllocError, Global};
 

@@ -5,10 +5,10 @@ ghost use Rattle.dt_image.specs.Images.{IsImage};
 
 use crate::models::model;
 use crate::output::push_bytes;
-use crate::parts::Case;
 use crate::stop::Stop;
 use dt_image::{Image, print_image, read_image};
 use dt_model::Accepted;
+use dt_script::Case;
 use std::alloc::Global;
 
 /// The image of the case.

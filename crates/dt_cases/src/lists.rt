@@ -5,11 +5,11 @@ ghost use Rattle.dt_request.specs.Lists.{IsList};
 
 use crate::models::model;
 use crate::output::{push_bytes, push_named};
-use crate::parts::Case;
 use crate::stop::Stop;
 use dt_lex::Name;
 use dt_model::Accepted;
 use dt_request::{AccessWish, Demand, Requests, choice_bits, choice_count, read_requests};
+use dt_script::Case;
 use std::alloc::{AllocError, Global};
 
 /// The list of the case.

@@ -1,23 +1,8 @@
 //! Cases of the calls below, as texts: what a call makes of these texts, and what it must. The words
-//! of the program name files of cases. For each case it prints `NAME: ok`, or `NAME: differs` and
-//! what came in place of the expected answer; and at the end how many cases were ok, and how many
-//! differed.
+//! of the program name files of cases.
 //!
-//! A file of cases has lines of these kinds:
-//!
-//! | line | what it is |
-//! |---|---|
-//! | `# ..`, or an empty one | nothing |
-//! | `text NAME` | begins a text that cases take up by its name |
-//! | `case NAME CALL` | begins a case |
-//! | `PART` or `PART PIECE` | begins a part of the case: `model`, `list`, `image` and others, and `expect` |
-//! | `\|LINE` | a piece of the text of the part above: this line, with its line feed |
-//! | `:TEXT` | a piece: this text, without a line feed |
-//! | `*N TEXT` | a piece: this text N times, without line feeds |
-//! | `<NAME` | a piece: the text of this name |
-//!
-//! In a piece `\t` is a tab, `\r` a carriage return, `\1` the byte 1, and `\\` a backslash. An answer
-//! is lines too; where a text is refused, it is the line that the program prints then.
+//! `dt_script` says how a file of cases is written. Where a text is refused, the answer is the line
+//! that the program prints then.
 //!
 //! | call | parts | answer |
 //! |---|---|---|
@@ -35,8 +20,6 @@
 //! | `judge` | `model`, `list`, `image` | `satisfies`, `breaks K`, or `no match` |
 //! | `run` | `words W..`, `file NAME`.., `unread N..`, `unwritten N..` | `status S`, and what was written |
 //! | `measure` | the same | `status S`, and how many bytes were written |
-//! | `problem` | `problem` | an answer for each line, see `problems` |
-//! | `cells` | `problem`, `steps` | an answer for each step from the root cells, see `steps` |
 //!
 //! Proved: each call is made where its conditions hold, and the program ends. Only tested: all else,
 //! and so that these calls answer something other than that memory ran out where there is enough.
@@ -48,20 +31,14 @@ mod commands;
 mod images;
 mod lists;
 mod models;
-mod operators;
 mod output;
-mod parts;
-mod problems;
-mod report;
-mod script;
 mod sources;
-mod spelling;
-mod steps;
 mod stop;
 mod walks;
 
-use crate::report::Report;
+use crate::answers::Answers;
 use dt_edge::{FileShelf, OutSink, Sink};
+use dt_script::Report;
 use std::env;
 use std::process::ExitCode;
 
@@ -70,7 +47,7 @@ fn reported(rt: &HostRuntime) -> Option<Report> {
     let mut shelf = FileShelf::new(rt);
     let mut report = Report::new(rt.alloc());
     for name in env::args(rt).ok()?.skip(1) {
-        report.add_file(rt.alloc(), &mut shelf, name.as_str()).ok()?;
+        report.add_file::<Answers, _>(rt.alloc(), &mut shelf, name.as_str()).ok()?;
     }
     report.end().ok()?;
     Some(report)

@@ -1,9 +1,9 @@
 //! Models: read, checked and printed.
 use crate::output::push_bytes;
-use crate::parts::Case;
 use crate::stop::Stop;
 use dt_model::{Accepted, Act, Model};
 use dt_modeltext::{print_model, read_model};
+use dt_script::Case;
 use std::alloc::{AllocError, Global};
 
 /// The model of the case.

@@ -1,8 +1,8 @@
 //! Lines, tokens, numbers and names of a source.
 use crate::output::push_named;
-use crate::parts::Case;
 use crate::stop::Stop;
 use dt_lex::{Name, Token, lex, next_line, number, push_decimal, push_hex};
+use dt_script::Case;
 use std::alloc::{AllocError, Global};
 
 fn push_tokens(out: &mut String, tokens: &[Token]) -> Result<(), AllocError> {

@@ -7,11 +7,11 @@ ghost use Rattle.dt_image.specs.Images.{IsImage};
 use crate::images::image;
 use crate::models::model;
 use crate::output::push_bytes;
-use crate::parts::Case;
 use crate::stop::Stop;
 use dt_bits::TableMemory;
 use dt_image::Image;
 use dt_model::{Accepted, Node};
+use dt_script::Case;
 use dt_walk::{End, ReadMade, Run, SideTaken, Walker, access_rule_holds, context_rule_holds};
 use std::alloc::{AllocError, Global};
 

@@ -22,8 +22,6 @@ mod file_shelf;
 mod memory_shelf;
 mod memory_sink;
 mod out_sink;
-#[cfg(test)]
-mod tests;
 
 pub use edge::{Shelf, ShelfFault, Sink, SinkFault};
 pub use file_shelf::FileShelf;

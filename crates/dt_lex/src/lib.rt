@@ -26,8 +26,6 @@ mod reader;
 mod row;
 mod section;
 mod spans;
-#[cfg(test)]
-mod tests;
 mod text;
 
 pub use fault::LexFault;

@@ -41,8 +41,6 @@ mod refusal;
 mod rules;
 mod set;
 mod surveying;
-#[cfg(test)]
-mod tests;
 
 pub use accepted::Accepted;
 pub use bounds::{bounds_fit, word_bytes};

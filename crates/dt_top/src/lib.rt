@@ -38,6 +38,3 @@ pub use program::run;
 pub use reply::{Reply, Text};
 pub use stages::{accepted_model, matching_image, request_list};
 pub use status::Status;
-
-#[cfg(test)]
-mod tests;

@@ -1,4 +1,4 @@
-use crate::{Piece, Token, lex, push_row};
+use dt_lex::{Piece, Token, lex, push_row};
 use std::process::Abort;
 use std::test::Fail;
 

@@ -1,8 +1,7 @@
 // The program over an output that tells its pieces.
-use crate::program::run;
-use crate::status::Status;
 use dt_bits::NoMemory;
 use dt_edge::{MemoryShelf, Sink, SinkFault};
+use dt_top::{Status, run};
 
 // An output that keeps each piece, and fails where memory runs out for one.
 #[derive(Drop)]

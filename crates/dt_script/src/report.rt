@@ -1,14 +1,18 @@
 //! The report on files of cases.
-use crate::answers::answer;
 use crate::parts::{Case, Part};
 use crate::script::parts_of;
-use crate::stop::Stop;
-use dt_edge::{Shelf, ShelfFault};
+use dt_edge::Shelf;
 use std::alloc::{AllocError, Global};
 use std::str;
 
 /// The most bytes of a file of cases.
 const LIMIT: u64 = 16_777_216;
+
+/// The calls of a program of cases.
+pub trait Calls {
+    /// What comes of the call of this name on the texts of the case.
+    fn answer(alloc: Global, call: &str, case: Case) -> Result<String, AllocError>;
+}
 
 /// A line for each case, and counts.
 #[derive(Drop)]
@@ -19,6 +23,7 @@ pub struct Report {
 }
 
 impl Report {
+    /// A report on no case yet.
     pub fn new(alloc: Global) -> Report {
         Report {
             text: String::new(alloc),
@@ -27,14 +32,20 @@ impl Report {
         }
     }
 
+    /// The lines so far.
     pub fn text(&self) -> &str {
         self.text.as_str()
     }
 
     /// Compares the answer of the case of this header with the expected one.
-    fn add_case(&mut self, alloc: Global, header: &str, case: Case) -> Result<(), AllocError> {
+    fn add_case<C: Calls>(
+        &mut self,
+        alloc: Global,
+        header: &str,
+        case: Case,
+    ) -> Result<(), AllocError> {
         let (name, call) = header.split_once(' ').unwrap_or((header, ""));
-        let answer = answer(alloc, call, case)?;
+        let answer = C::answer(alloc, call, case)?;
         let answer = answer.as_str();
         if answer == case.text("expect") {
             self.ok = self.ok.saturating_add(1);
@@ -45,41 +56,42 @@ impl Report {
         }
     }
 
-    fn add_cases(&mut self, alloc: Global, parts: &[Part]) -> Result<(), AllocError> {
+    fn add_cases<C: Calls>(&mut self, alloc: Global, parts: &[Part]) -> Result<(), AllocError> {
         for i in 0..parts.len() {
             let header = &parts[i];
             if header.word.as_str() == "case" {
                 let case = Case {
                     parts: &parts[i + 1..],
                 };
-                self.add_case(alloc, header.rest.as_str(), case)?;
+                self.add_case::<C>(alloc, header.rest.as_str(), case)?;
             }
         }
         Ok(())
     }
 
     /// The cases of a file.
-    fn add_script(&mut self, alloc: Global, script: &[u8]) -> Result<(), AllocError> {
+    fn add_script<C: Calls>(&mut self, alloc: Global, script: &[u8]) -> Result<(), AllocError> {
         let parts = parts_of(alloc, str::from_utf8(script).unwrap_or(""))?;
-        self.add_cases(alloc, parts.as_slice())
+        self.add_cases::<C>(alloc, parts.as_slice())
     }
 
-    /// The cases of the file of this name.
-    pub fn add_file<S: Shelf>(
+    /// The cases of the file of this name; a file that can't be read is said to be none.
+    pub fn add_file<C: Calls, S: Shelf>(
         &mut self,
         alloc: Global,
         shelf: &mut S,
         name: &str,
-    ) -> Result<(), Stop> {
-        writeln!(self.text, "{name}")?;
+    ) -> Result<(), AllocError> {
         match shelf.read_all(alloc, name, LIMIT) {
-            Ok(bytes) => Ok(self.add_script(alloc, bytes.as_slice())?),
-            Err(ShelfFault::Memory) => Err(Stop::Memory),
-            Err(_) => Err(Stop::Unknown),
+            Ok(bytes) => {
+                writeln!(self.text, "{name}")?;
+                self.add_script::<C>(alloc, bytes.as_slice())
+            }
+            Err(_) => writeln!(self.text, "{name} can't be read"),
         }
     }
 
-    /// The counts.
+    /// The counts, at the end.
     pub fn end(&mut self) -> Result<(), AllocError> {
         writeln!(self.text, "{} ok, {} differ", self.ok, self.differ)
     }

@@ -1,4 +1,4 @@
-use super::*;
+use dt_bits::{NoMemory, Seq};
 
 #[test]
 fn a_list_grows_where_there_is_memory(rt: HostRuntime) -> Result<(), NoMemory> {

@@ -3,7 +3,7 @@ use Rattle.std.specs.Prelude.{codes}
 use Rattle.dt_lex.specs.Names.{padded_name}
 use Rattle.dt_model.specs.ModelData.{fault, node_of, tree_of}
 use Rattle.dt_model.specs.Certificate.{no_sets, IsCertified}
-use Rattle.dt_model.proofs.tests.one_fault.Goals as goal
+use Rattle.dt_tests.proofs.models.one_fault.Goals as goal
 
 certified : IsCertified (record { word = 8; address = 8; regs = []; inputs = []; vars = []; legal_context = []; legal_access = []; nodes = record { name = padded_name (codes "f"); step = fault 7 } ∷ [] })
 certified = (no_sets ∷ [], record { header = refl; regs = refl; inputs = refl; vars = refl; context = refl; access = refl; start = refl; nodes = refl; arities = refl; names = refl })

@@ -1,6 +1,6 @@
 use Rattle.dt_pair.specs.Ops.{pair_ops}
 use Rattle.dt_box.specs.Cells.{AreCells}
-use Rattle.dt_cases.proofs.steps.take_lines.Given as goal
+use Rattle.dt_problem_cases.proofs.steps.take_lines.Given as goal
 
 abbrev pub invariant-loop-line : goal.invariant-loop-line
 invariant-loop-line l =

@@ -7,11 +7,11 @@ ghost use Rattle.dt_pair.specs.Ops.{pair_ops};
 ghost use Rattle.dt_box.specs.Cells.{AreCells};
 
 use crate::operators::{numbers, small};
-use crate::parts::Case;
 use crate::problems::problem;
-use crate::stop::Stop;
+use dt_bits::NoMemory;
 use dt_box::{Cells, Changed, Step};
 use dt_pair::Pair;
+use dt_script::Case;
 use dt_terms::Problem;
 use std::alloc::{AllocError, Global};
 
@@ -202,7 +202,7 @@ fn take_lines(
 }
 
 /// An answer for each step from the root cells of the problem, after those for its lines.
-pub fn answered(alloc: Global, case: Case, out: &mut String) -> Result<(), Stop> {
+pub fn answered(alloc: Global, case: Case, out: &mut String) -> Result<(), NoMemory> {
     let problem = problem(alloc, case, out)?;
     let mut cells: Cells<Pair> = Cells::root(alloc, &problem)?;
     take_lines(alloc, &problem, &mut cells, out, case.text("steps"))?;

@@ -3,9 +3,9 @@ ghost use Rattle.dt_lex.specs.Names.{padded_name};
 ghost use Rattle.dt_model.specs.Accepted.{accepted_data};
 ghost use Rattle.dt_model.specs.ModelData.{ModelData, fault};
 
-use crate::{Accepted, Act, Model, Node};
 use dt_bits::{NoMemory, Seq};
 use dt_lex::Name;
+use dt_model::{Accepted, Act, Model, Node};
 use std::alloc::Global;
 use std::test::Fail;
 

@@ -7,9 +7,8 @@
 ghost use Rattle.dt_bits.specs.Ops.{IsOp};
 
 use crate::operators::{numbers, operator, own_numbers, small};
-use crate::parts::Case;
-use crate::stop::Stop;
-use dt_bits::{Op, Width};
+use dt_bits::{NoMemory, Op, Width};
+use dt_script::Case;
 use dt_terms::{Problem, Term, TermFault};
 use std::alloc::{AllocError, Global};
 
@@ -143,14 +142,14 @@ fn add_lines(
 }
 
 /// The problem of the case, and an answer for each line of it.
-pub fn problem(alloc: Global, case: Case, out: &mut String) -> Result<Problem, Stop> {
+pub fn problem(alloc: Global, case: Case, out: &mut String) -> Result<Problem, NoMemory> {
     let mut problem = Problem::new(alloc)?;
     add_lines(alloc, &mut problem, out, case.text("problem"))?;
     Ok(problem)
 }
 
 /// An answer for each line of the problem.
-pub fn answered(alloc: Global, case: Case, out: &mut String) -> Result<(), Stop> {
+pub fn answered(alloc: Global, case: Case, out: &mut String) -> Result<(), NoMemory> {
     problem(alloc, case, out)?;
     Ok(())
 }

@@ -1,5 +1,5 @@
-use super::*;
 use dt_bits::NoMemory;
+use dt_edge::{MemoryShelf, MemorySink, Shelf, ShelfFault, Sink, SinkFault};
 
 fn is_read(read: Result<Vec<u8>, ShelfFault>, want: &[u8]) -> bool {
     match read {

@@ -1,0 +1,27 @@
+//! Which call a case asks for, and its answer.
+use crate::{problems, steps};
+use dt_bits::NoMemory;
+use dt_script::{Calls, Case};
+use std::alloc::{AllocError, Global};
+
+/// Writes what the call makes of the case.
+fn push_answer(alloc: Global, call: &str, case: Case, out: &mut String) -> Result<(), NoMemory> {
+    match call {
+        "problem" => problems::answered(alloc, case, out),
+        "cells" => steps::answered(alloc, case, out),
+        _ => Ok(out.push_str("no such call\n")?),
+    }
+}
+
+/// The calls of this program.
+pub struct Answers;
+
+impl Calls for Answers {
+    fn answer(alloc: Global, call: &str, case: Case) -> Result<String, AllocError> {
+        let mut out = String::new(alloc);
+        if push_answer(alloc, call, case, &mut out).is_err() {
+            out.push_str("memory ran out\n")?;
+        }
+        Ok(out)
+    }
+}

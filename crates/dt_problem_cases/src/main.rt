@@ -1,0 +1,44 @@
+//! Cases of problems of terms and of their cells, as texts: what the calls make of them, line by
+//! line, and what they must. The words of the program name files of cases; `dt_script` says how these
+//! are written.
+//!
+//! | call | parts | answer |
+//! |---|---|---|
+//! | `problem` | `problem` | an answer for each line, see `problems` |
+//! | `cells` | `problem`, `steps` | an answer for each step from the root cells, see `steps` |
+//!
+//! Proved: each call is made where its conditions hold, and the program ends. Only tested: all else,
+//! and so that these calls answer something other than that memory ran out where there is enough.
+#![tactic(auto)]
+
+mod answers;
+mod operators;
+mod problems;
+mod steps;
+
+use crate::answers::Answers;
+use dt_edge::{FileShelf, OutSink, Sink};
+use dt_script::Report;
+use std::env;
+use std::process::ExitCode;
+
+/// The report on the files that the words name.
+fn reported(rt: &HostRuntime) -> Option<Report> {
+    let mut shelf = FileShelf::new(rt);
+    let mut report = Report::new(rt.alloc());
+    for name in env::args(rt).ok()?.skip(1) {
+        report.add_file::<Answers, _>(rt.alloc(), &mut shelf, name.as_str()).ok()?;
+    }
+    report.end().ok()?;
+    Some(report)
+}
+
+fn main(rt: HostRuntime) -> ExitCode {
+    match reported(&rt) {
+        None => ExitCode::from(1),
+        Some(report) => match OutSink::new(&rt).write_all(report.text().as_bytes()) {
+            Ok(()) => ExitCode::SUCCESS,
+            Err(_) => ExitCode::from(2),
+        },
+    }
+}
