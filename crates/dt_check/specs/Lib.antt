@@ -9,3 +9,4 @@ pub mod Waiting
 pub mod Laws
 pub mod Along
 pub mod Checking
+pub mod Words

@@ -6,12 +6,14 @@
 //! |---|---|---|
 //! | `problem` | `problem` | an answer for each line, see `problems` |
 //! | `cells` | `problem`, `steps` | an answer for each step from the root cells, see `steps` |
+//! | `check known`, `check range`, `check pair` | `problem`, `log` | what the checker says over this domain, see `logs` |
 //!
 //! Proved: each call is made where its conditions hold, and the program ends. Only tested: all else,
 //! and so that these calls answer something other than that memory ran out where there is enough.
 #![tactic(auto)]
 
 mod answers;
+mod logs;
 mod operators;
 mod problems;
 mod steps;

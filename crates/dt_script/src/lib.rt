@@ -14,8 +14,8 @@
 //! | `*N TEXT` | a piece: this text N times, without line feeds |
 //! | `<NAME` | a piece: the text of this name |
 //!
-//! In a piece `\t` is a tab, `\r` a carriage return, `\1` the byte 1, and `\\` a backslash. An answer
-//! is lines too.
+//! In a piece `\n` is a line feed, `\t` a tab, `\r` a carriage return, `\1` the byte 1, and `\\` a
+//! backslash. An answer is lines too.
 //!
 //! For each case the report says `NAME: ok`, or `NAME: differs` and what came in place of the
 //! expected answer; and at the end how many cases were ok, and how many differed.

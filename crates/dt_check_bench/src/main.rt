@@ -1,0 +1,99 @@
+//! Measures the checker over pairs. `refutation CHAINS NODES TERMS` makes a problem of so many terms
+//! that no assignment solves, and a refutation with a full tree of splits, one level for each chain,
+//! each followed by NODES steps. `record CHAINS NODES TERMS` makes a record with the same splits and
+//! steps of a problem of the same size. Standard error then says how many items the log had, and how
+//! many milliseconds its check took. Without words it does both for a small size, and prints no
+//! figure.
+//!
+//! Proved: each call is made where its conditions hold, and the program ends.
+//! Only tested: that it runs, and the verdicts. The figures are the machine's.
+#![tactic(auto)]
+
+mod logs;
+mod problems;
+mod stop;
+
+use crate::logs::{record, refutation};
+use crate::problems::{Size, contradiction, difference};
+use crate::stop::Stop;
+use dt_check::{Verdict, check_log};
+use dt_log::Log;
+use dt_pair::Pair;
+use dt_terms::Problem;
+use std::alloc::Global;
+use std::env;
+use std::time::Instant;
+
+/// The size without words.
+const SMALL: Size = Size {
+    chains: 3,
+    nodes: 2,
+    terms: 20,
+};
+
+fn checked(alloc: Global, problem: &Problem, log: &Log) -> Result<Verdict, Stop> {
+    if log.lines.len() > u32::MAX as usize {
+        return Err(Stop::NoTree);
+    }
+    Ok(check_log::<Pair>(alloc, problem, log)?)
+}
+
+fn print(rt: &HostRuntime, verdict: Verdict) -> Result<(), Stop> {
+    match verdict {
+        Verdict::Closed(splits) => println!(rt; "closed {splits}")?,
+        Verdict::Unfinished(splits) => println!(rt; "open {splits}")?,
+        Verdict::Refused { item, cause } => println!(rt; "refused item {item} {}", cause.word())?,
+    }
+    Ok(())
+}
+
+/// Checks the log, and says what it costs and what the verdict is.
+fn measure(rt: &HostRuntime, shown: bool, problem: &Problem, log: &Log) -> Result<(), Stop> {
+    let start = Instant::now(rt)?;
+    let verdict = checked(rt.alloc(), problem, log)?;
+    let taken = start.elapsed(rt)?.as_millis();
+    if shown {
+        let items = log.lines.len();
+        let terms = problem.terms.len();
+        eprintln!(rt; "checked {items} items on {terms} terms: {taken} ms")?;
+    }
+    print(rt, verdict)
+}
+
+fn measure_refutation(rt: &HostRuntime, shown: bool, size: Size) -> Result<(), Stop> {
+    let problem = contradiction(rt.alloc(), size)?;
+    let log = refutation(rt.alloc(), size)?;
+    measure(rt, shown, &problem, &log)
+}
+
+fn measure_record(rt: &HostRuntime, shown: bool, size: Size) -> Result<(), Stop> {
+    let problem = difference(rt.alloc(), size)?;
+    let log = record(rt.alloc(), size)?;
+    measure(rt, shown, &problem, &log)
+}
+
+fn number(word: Option<&String>) -> u32 {
+    match word {
+        Some(word) => word.as_str().parse::<u32>().unwrap_or(0),
+        None => 0,
+    }
+}
+
+fn main(rt: HostRuntime) -> Result<(), Stop> {
+    let words = env::args(&rt)?;
+    let words = words.as_slice();
+    if words.len() < 2 {
+        measure_refutation(&rt, false, SMALL)?;
+        return measure_record(&rt, false, SMALL);
+    }
+    let size = Size {
+        chains: number(words.get(2)).min(24),
+        nodes: number(words.get(3)),
+        terms: number(words.get(4)),
+    };
+    if words[1].as_str() == "record" {
+        measure_record(&rt, true, size)
+    } else {
+        measure_refutation(&rt, true, size)
+    }
+}

@@ -1,0 +1,60 @@
+//! Logs of problems, and what the checker says of them over known bits, ranges or pairs: `closed S`,
+//! `open S`, or `refused item I CAUSE`; of a text that is no log, which line or item is wrong, and why.
+//! `*N TEXT` in a case writes a long log.
+
+use crate::problems::problem;
+use dt_bits::NoMemory;
+use dt_check::{Verdict, check_log};
+use dt_domain::Domain;
+use dt_known::Known;
+use dt_log::{Log, LogFault, read_log};
+use dt_pair::Pair;
+use dt_range::Range;
+use dt_script::Case;
+use dt_terms::Problem;
+use std::alloc::{AllocError, Global};
+
+fn push_verdict(out: &mut String, verdict: Verdict) -> Result<(), AllocError> {
+    match verdict {
+        Verdict::Closed(splits) => writeln!(out, "closed {splits}"),
+        Verdict::Unfinished(splits) => writeln!(out, "open {splits}"),
+        Verdict::Refused { item, cause } => writeln!(out, "refused item {item} {}", cause.word()),
+    }
+}
+
+fn push_fault(out: &mut String, fault: LogFault) -> Result<(), AllocError> {
+    match (fault.line(), fault.item()) {
+        (Some(line), _) => writeln!(out, "refused log line {line} {}", fault.word()),
+        (None, Some(item)) => writeln!(out, "refused log item {item} {}", fault.word()),
+        (None, None) => writeln!(out, "{}", fault.word()),
+    }
+}
+
+fn push_checked<D: Domain>(
+    alloc: Global,
+    problem: &Problem,
+    log: &Log,
+    out: &mut String,
+) -> Result<(), NoMemory> {
+    if log.lines.len() > u32::MAX as usize {
+        return Ok(());
+    }
+    let verdict = check_log::<D>(alloc, problem, log)?;
+    push_verdict(out, verdict)?;
+    Ok(())
+}
+
+/// The checker's answer over the domain of this name.
+pub fn answered(alloc: Global, domain: &str, case: Case, out: &mut String) -> Result<(), NoMemory> {
+    let mut ignored = String::new(alloc);
+    let problem = problem(alloc, case, &mut ignored)?;
+    let log = match read_log(alloc, case.text("log").as_bytes()) {
+        Ok(log) => log,
+        Err(fault) => return Ok(push_fault(out, fault)?),
+    };
+    match domain {
+        "known" => push_checked::<Known>(alloc, &problem, &log, out),
+        "range" => push_checked::<Range>(alloc, &problem, &log, out),
+        _ => push_checked::<Pair>(alloc, &problem, &log, out),
+    }
+}
