@@ -6,12 +6,15 @@
 makes `limits` (a model at every limit at once), `many_nodes`, `many_regs`, `many_rules` and
 `long_lines` (models of just 16 MiB that are read to their end; the check refuses all but the last), `bytes` (a model with words
 of one byte), `bytes_list` and `bytes_image` (an image of just 16 MiB for it, which meets the list),
-and `bytes_broken` (the same with its last word's address repeated).
+`bytes_broken` (the same with its last word's address repeated), and the logs `log_steps`, `log_tries`
+and `log_splits` (64 MiB each: a long refutation, the most values of tries, and the most items of a
+tree) and `log_opens` (64 MiB of items of which the second is already wrong).
 """
 import sys
 
 FOLDER = sys.argv[1]
 MOST = 16 * 1024 * 1024
+MOST_LOG = 64 * 1024 * 1024
 
 
 def write(name, lines):
@@ -136,6 +139,34 @@ def image():
     print(len(lines), "words")
 
 
+def log(name, claim, items, last):
+    """Of items one behind the other, as many as there is room for, and the last ones."""
+    size = sum(len(line) + 1 for line in [claim, "end"] + last)
+    lines = []
+    while True:
+        more = items(len(lines))
+        size += sum(len(line) + 1 for line in more)
+        if size > MOST_LOG:
+            break
+        lines += more
+    write(name, [claim] + lines + last + ["end"])
+    print(name, len(lines) + len(last), "items")
+
+
+def logs():
+    def refuted(at):
+        steps = ["forward %d" % ((at * 7919 + i * 104729) % 100000) for i in range(5)]
+        steps += ["backward %d %d" % ((at * 15485863 + i * 32452843) % 100000, i % 3) for i in range(4)]
+        return steps + ["split %d %d" % (at % 1000, at % 64), "close %d" % (at * 49979687 % 100000)]
+
+    log("log_steps", "impossible", refuted, ["close 0"])
+    log("log_tries", "budget 0", lambda at: ["try 0 0x0"], ["open"])
+    pairs = (MOST_LOG - 40) // 15
+    log("log_splits", "budget %d" % pairs, lambda at: ["split 0 0", "open"], ["open"])
+    log("log_opens", "impossible", lambda at: ["open"], ["open"])
+
+
 limits()
 models()
 image()
+logs()
