@@ -30,7 +30,7 @@ use Rattle.dt_request.specs.declared.entry.Entry.TheVariants as entry
 use Rattle.dt_request.specs.declared.list.Side.{Side}
 use Rattle.dt_request.specs.declared.list.Link.{Link}
 use Rattle.dt_request.specs.declared.list.Link.TheVariants.{ShareTable, ShareCell, SharePage, ApartTable, ApartPage}
-use Rattle.dt_request.specs.Lists.{AreNames, IsDemand, IsWish, access_names, IsSide, IsLink, IsList, IsOnEnd, AsksEndsAlone}
+use Rattle.dt_request.specs.Lists.{AreNames, IsDemand, IsWish, access_names, IsSide, IsLink, IsKept, IsList, IsOnEnd, AsksEndsAlone}
 use Rattle.dt_request.specs.Line.{spelled}
 use Rattle.dt_request.specs.Entry.{Declared, sections, standing, access_at, demand_of, last_demands, entry_of, meaning}
 use Rattle.dt_request.specs.Draft.{nothing, with_demand, list_with, added, IsEndList, IsDraft}
@@ -85,6 +85,8 @@ tables_kept : (d : ModelData) (r : Requests) (lo hi : ℕ) → bounds_fit d lo h
 tables_kept d r lo hi fit h =
     record {
       bounds = bounds_are d lo hi fit;
+      few_kept = h.few_kept;
+      kept = h.kept;
       few_contexts = h.few_contexts;
       contexts = h.contexts;
       few_accesses = h.few_accesses;
@@ -103,6 +105,8 @@ context_kept d r name is few none h =
     let small = ltb-true (length r.contexts) 16 few in
     record {
       bounds = h.bounds;
+      few_kept = h.few_kept;
+      kept = h.kept;
       few_contexts = omega (arith, more, small);
       contexts = names_push r.contexts name is none h.contexts;
       few_accesses = h.few_accesses;
@@ -118,6 +122,8 @@ access_kept d r name k is few within none h =
     let small = ltb-true (length r.accesses) 64 few in
     record {
       bounds = h.bounds;
+      few_kept = h.few_kept;
+      kept = h.kept;
       few_contexts = h.few_contexts;
       contexts = h.contexts;
       few_accesses = omega (arith, length_push r.accesses a, small);
@@ -130,6 +136,8 @@ access_kept d r name k is few within none h =
 demand_kept : (d : ModelData) (r : Requests) (x : Demand) → ltb (length (last_demands r.accesses)) 64 ≡ true → IsDemand d x → IsList d r → Leaves d r (entry.Demand x)
 demand_kept d r x few is h = record {
   bounds = h.bounds;
+  few_kept = h.few_kept;
+  kept = h.kept;
   few_contexts = h.few_contexts;
   contexts = h.contexts;
   few_accesses = omega (arith, length_with r.accesses x, h.few_accesses);
@@ -186,11 +194,11 @@ abbrev LeavesEnds : Requests → Entry → Type 0
 LeavesEnds r e = AsksEndsAlone (list_with r e)
 
 demand_ends : (r : Requests) (x : Demand) → IsOnEnd x → AsksEndsAlone r → LeavesEnds r (entry.Demand x)
-demand_ends r x is h = record { demands = ends_with r.accesses x is h.demands; links = h.links }
+demand_ends r x is h = record { demands = ends_with r.accesses x is h.demands; links = h.links; kept = h.kept }
 
 access_ends : (r : Requests) (name : Name) (o : Option ℕ) → AsksEndsAlone r → IfOk (access_at r name o) (LeavesEnds r)
 access_ends r name None h = tt
-access_ends r name (Some k) h = chosen_ok (LeavesEnds r) (is_named (access_names r.accesses) name) (Err Twice) (Ok (entry.Access name k)) (λ e. tt) (λ e. record { demands = All-push (λ (a : AccessWish). All IsOnEnd a.demands) r.accesses (record { name = name; context = k; demands = [] }) h.demands (All-nil IsOnEnd); links = h.links })
+access_ends r name (Some k) h = chosen_ok (LeavesEnds r) (is_named (access_names r.accesses) name) (Err Twice) (Ok (entry.Access name k)) (λ e. tt) (λ e. record { demands = All-push (λ (a : AccessWish). All IsOnEnd a.demands) r.accesses (record { name = name; context = k; demands = [] }) h.demands (All-nil IsOnEnd); links = h.links; kept = h.kept })
 
 asked_ends : (r : Requests) (wanted : Asked) → AsksEndsAlone r → IfOk (demand_of wanted >>= λ x. Ok (entry.Demand x)) (LeavesEnds r)
 asked_ends r asked.EndDone h = demand_ends r EndDone tt h
@@ -202,10 +210,10 @@ asked_ends r (asked.EndFault code) h = fault_ends (leb code 65535)
 
 entry_ends : (d : ModelData) (r : Requests) (l : Line) → AsksEndsAlone r → IfOk (entry_of d r l) (LeavesEnds r)
 entry_ends d r line.Header h = h
-entry_ends d r (line.Tables lo hi) h = chosen_ok (LeavesEnds r) (bounds_fit d lo hi) (Ok (entry.Tables lo hi)) (Err OutOfRange) (λ e. record { demands = h.demands; links = h.links }) (λ e. tt)
+entry_ends d r (line.Tables lo hi) h = chosen_ok (LeavesEnds r) (bounds_fit d lo hi) (Ok (entry.Tables lo hi)) (Err OutOfRange) (λ e. record { demands = h.demands; links = h.links; kept = h.kept }) (λ e. tt)
 entry_ends d r (line.Context name) h =
     chosen_ok (LeavesEnds r) (ltb (length r.contexts) 16) _ (Err TooMany)
-    (λ few. chosen_ok (LeavesEnds r) (is_named r.contexts name) (Err Twice) (Ok (entry.Context name)) (λ e. tt) (λ e. record { demands = h.demands; links = h.links }))
+    (λ few. chosen_ok (LeavesEnds r) (is_named r.contexts name) (Err Twice) (Ok (entry.Context name)) (λ e. tt) (λ e. record { demands = h.demands; links = h.links; kept = h.kept }))
     (λ e. tt)
 entry_ends d r (line.Access name context) h = chosen_ok (LeavesEnds r) (ltb (length r.accesses) 64) _ (Err TooMany) (λ e. access_ends r name (position_of r.contexts context) h) (λ e. tt)
 entry_ends d r (line.Demand wanted) h = chosen_ok (LeavesEnds r) (ltb (length (last_demands r.accesses)) 64) _ (Err TooMany) (λ e. asked_ends r wanted h) (λ e. tt)
@@ -230,12 +238,14 @@ draft_kept d so new t ts e h is grown =
 
 -- ---- no line
 
-ends_start : AsksEndsAlone (record { lo = 0; hi = 0; contexts = []; accesses = []; links = [] })
-ends_start = record { demands = All-nil (λ (a : AccessWish). All IsOnEnd a.demands); links = refl }
+ends_start : AsksEndsAlone (record { lo = 0; hi = 0; kept = []; contexts = []; accesses = []; links = [] })
+ends_start = record { demands = All-nil (λ (a : AccessWish). All IsOnEnd a.demands); links = refl; kept = refl }
 
-list_start : (d : ModelData) → IsList d (record { lo = 0; hi = 0; contexts = []; accesses = []; links = [] })
+list_start : (d : ModelData) → IsList d (record { lo = 0; hi = 0; kept = []; contexts = []; accesses = []; links = [] })
 list_start d = record {
   bounds = record { lo_whole = omega arith; hi_whole = omega arith; rising = omega arith; within = omega arith };
+  few_kept = omega arith;
+  kept = All-nil (IsKept d);
   few_contexts = omega arith;
   contexts = record { spelled = All-nil IsName; distinct = λ i j n l m. absurd (omega arith) };
   few_accesses = omega arith;

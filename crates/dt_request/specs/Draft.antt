@@ -52,6 +52,7 @@ declared es = record {
   list = record {
     lo = (last_of (0, 0) (flat_map bounds_in es)).0;
     hi = (last_of (0, 0) (flat_map bounds_in es)).1;
+    kept = [];
     contexts = flat_map contexts_in es;
     accesses = accesses_in es;
     links = [];
@@ -60,7 +61,7 @@ declared es = record {
 
 -- what no line declares
 abbrev pub nothing : Declared
-nothing = record { place = 0; list = record { lo = 0; hi = 0; contexts = []; accesses = []; links = [] } }
+nothing = record { place = 0; list = record { lo = 0; hi = 0; kept = []; contexts = []; accesses = []; links = [] } }
 
 -- one more demand of the last access
 abbrev pub with_demand : List AccessWish → Demand → List AccessWish
@@ -83,7 +84,7 @@ added so e = record { place = place_behind e; list = list_with so.list e }
 
 -- a draft without where it lies in memory
 abbrev pub declared_by : Draft → Declared
-declared_by d = record { place = d.place; list = record { lo = d.lo; hi = d.hi; contexts = d.contexts.items; accesses = d.accesses.items; links = [] } }
+declared_by d = record { place = d.place; list = record { lo = d.lo; hi = d.hi; kept = []; contexts = d.contexts.items; accesses = d.accesses.items; links = [] } }
 
 -- a list of the model that asks for ends alone
 pub record IsEndList (d : ModelData) (r : Requests) : Type 0 where

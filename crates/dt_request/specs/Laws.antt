@@ -97,18 +97,18 @@ accesses_demand (End ∷ es) x = accesses_demand es x
 
 -- ---- all of it
 
-same : (p q : ℕ) (a b : Requests) → p ≡ q → a.lo ≡ b.lo → a.hi ≡ b.hi → a.contexts ≡ b.contexts → a.accesses ≡ b.accesses → a.links ≡ b.links → (let f : ℕ → Requests → Declared = λ place list. record { place = place; list = list } in f p a ≡ f q b)
-same p q a b place lo hi contexts accesses links = λ i. record { place = place i; list = record { lo = lo i; hi = hi i; contexts = contexts i; accesses = accesses i; links = links i } }
+same : (p q : ℕ) (a b : Requests) → p ≡ q → a.lo ≡ b.lo → a.hi ≡ b.hi → a.kept ≡ b.kept → a.contexts ≡ b.contexts → a.accesses ≡ b.accesses → a.links ≡ b.links → (let f : ℕ → Requests → Declared = λ place list. record { place = place; list = list } in f p a ≡ f q b)
+same p q a b place lo hi kept contexts accesses links = λ i. record { place = place i; list = record { lo = lo i; hi = hi i; kept = kept i; contexts = contexts i; accesses = accesses i; links = links i } }
 
 quiet : (es : List Entry) (e : Entry) → bounds_in e ≡ [] → contexts_in e ≡ [] → IsQuiet e → (let f : ℕ → Requests → Declared = λ place list. record { place = place; list = list } in declared (es ++ e ∷ []) ≡ f (place_behind e) (declared es).list)
 unfolding declared
-quiet es e bounds contexts none = same _ _ _ _ (last_map_push place_behind 0 es e) (ap (λ (p : ℕ × ℕ). p.0) (bounds_stay es e bounds)) (ap (λ (p : ℕ × ℕ). p.1) (bounds_stay es e bounds)) (flat_map_none contexts_in es e contexts) (accesses_stay es e none) refl
+quiet es e bounds contexts none = same _ _ _ _ (last_map_push place_behind 0 es e) (ap (λ (p : ℕ × ℕ). p.0) (bounds_stay es e bounds)) (ap (λ (p : ℕ × ℕ). p.1) (bounds_stay es e bounds)) refl (flat_map_none contexts_in es e contexts) (accesses_stay es e none) refl
 
 pub adds_up : (es : List Entry) (e : Entry) → declared (es ++ e ∷ []) ≡ added (declared es) e
 unfolding declared
 adds_up es Header = quiet es Header refl refl (refl, refl)
-adds_up es (Tables lo hi) = same _ _ _ _ (last_map_push place_behind 0 es (Tables lo hi)) (ap (λ (p : ℕ × ℕ). p.0) (bounds_push es lo hi)) (ap (λ (p : ℕ × ℕ). p.1) (bounds_push es lo hi)) (flat_map_none contexts_in es (Tables lo hi) refl) (accesses_stay es (Tables lo hi) (refl, refl)) refl
-adds_up es (Context name) = same _ _ _ _ (last_map_push place_behind 0 es (Context name)) (ap (λ (p : ℕ × ℕ). p.0) (bounds_stay es (Context name) refl)) (ap (λ (p : ℕ × ℕ). p.1) (bounds_stay es (Context name) refl)) (flat_map_one contexts_in es (Context name) name refl) (accesses_stay es (Context name) (refl, refl)) refl
-adds_up es (Access name context) = same _ _ _ _ (last_map_push place_behind 0 es (Access name context)) (ap (λ (p : ℕ × ℕ). p.0) (bounds_stay es (Access name context) refl)) (ap (λ (p : ℕ × ℕ). p.1) (bounds_stay es (Access name context) refl)) (flat_map_none contexts_in es (Access name context) refl) (accesses_push es name context) refl
-adds_up es (Wanted demand) = same _ _ _ _ (last_map_push place_behind 0 es (Wanted demand)) (ap (λ (p : ℕ × ℕ). p.0) (bounds_stay es (Wanted demand) refl)) (ap (λ (p : ℕ × ℕ). p.1) (bounds_stay es (Wanted demand) refl)) (flat_map_none contexts_in es (Wanted demand) refl) (accesses_demand es demand) refl
+adds_up es (Tables lo hi) = same _ _ _ _ (last_map_push place_behind 0 es (Tables lo hi)) (ap (λ (p : ℕ × ℕ). p.0) (bounds_push es lo hi)) (ap (λ (p : ℕ × ℕ). p.1) (bounds_push es lo hi)) refl (flat_map_none contexts_in es (Tables lo hi) refl) (accesses_stay es (Tables lo hi) (refl, refl)) refl
+adds_up es (Context name) = same _ _ _ _ (last_map_push place_behind 0 es (Context name)) (ap (λ (p : ℕ × ℕ). p.0) (bounds_stay es (Context name) refl)) (ap (λ (p : ℕ × ℕ). p.1) (bounds_stay es (Context name) refl)) refl (flat_map_one contexts_in es (Context name) name refl) (accesses_stay es (Context name) (refl, refl)) refl
+adds_up es (Access name context) = same _ _ _ _ (last_map_push place_behind 0 es (Access name context)) (ap (λ (p : ℕ × ℕ). p.0) (bounds_stay es (Access name context) refl)) (ap (λ (p : ℕ × ℕ). p.1) (bounds_stay es (Access name context) refl)) refl (flat_map_none contexts_in es (Access name context) refl) (accesses_push es name context) refl
+adds_up es (Wanted demand) = same _ _ _ _ (last_map_push place_behind 0 es (Wanted demand)) (ap (λ (p : ℕ × ℕ). p.0) (bounds_stay es (Wanted demand) refl)) (ap (λ (p : ℕ × ℕ). p.1) (bounds_stay es (Wanted demand) refl)) refl (flat_map_none contexts_in es (Wanted demand) refl) (accesses_demand es demand) refl
 adds_up es End = quiet es End refl refl (refl, refl)

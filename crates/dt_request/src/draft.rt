@@ -54,6 +54,7 @@ impl Draft {
         Requests {
             lo: self.lo,
             hi: self.hi,
+            kept: Seq::new(alloc),
             contexts: Seq::from_vec(self.contexts),
             accesses: Seq::from_vec(self.accesses),
             links: Seq::new(alloc),

@@ -26,5 +26,5 @@ mod read;
 
 pub use counting::{choice_bits, choice_count};
 pub use fault::RequestFault;
-pub use list::{AccessWish, Demand, Link, Quantity, Requests, Side};
+pub use list::{AccessWish, Demand, KeptRange, Link, Quantity, Requests, Side};
 pub use read::read_requests;
