@@ -1,5 +1,5 @@
 -- What the printer appends, one piece and one row after the other.
-use Rattle.std.proofs.Common.{◌≡◌, ℕ, ◌+◌, ◌<◌, List, [], ◌∷◌, ◌++◌, length, take, get_or, Option, Some, None, refl, sym, ap, ◌∙◌}
+use Rattle.std.proofs.Common.{◌≡◌, ℕ, ◌+◌, ◌<◌, List, [], ◌∷◌, ◌++◌, length, take, get_or, Option, Some, None, refl, sym, ap, ◌∙◌, append_assoc}
 use Rattle.std.specs.Prelude.{map, codes, slice_get}
 use Rattle.std.specs.List.{flat_map}
 use Rattle.std.specs.Option.{option_map, option_map_or}
@@ -79,7 +79,39 @@ blocks_are a b c d =
     ∙ ap (λ (t : List ℕ). text_of b ++ t) (rows-append c _
     ∙ ap (λ (t : List ℕ). text_of c ++ t) (rows-append d _)))
 
-pub printed_is : (d : ModelData) (r : Requests) → printed d r ≡ row_text (codes "requests" ∷ version_of r.kept ∷ []) ++ (row_text (codes "tables" ∷ hex r.lo ∷ hex r.hi ∷ []) ++ (text_of (map keep_row r.kept) ++ (text_of (map context_row r.contexts) ++ (text_of (flat_map (access_rows d r.contexts) r.accesses) ++ (text_of (map (link_row d (access_names r.accesses)) r.links) ++ row_text (codes "end" ∷ []))))))
+printed_is : (d : ModelData) (r : Requests) → printed d r ≡ row_text (codes "requests" ∷ version_of r.kept ∷ []) ++ (row_text (codes "tables" ∷ hex r.lo ∷ hex r.hi ∷ []) ++ (text_of (map keep_row r.kept) ++ (text_of (map context_row r.contexts) ++ (text_of (flat_map (access_rows d r.contexts) r.accesses) ++ (text_of (map (link_row d (access_names r.accesses)) r.links) ++ row_text (codes "end" ∷ []))))))
 unfolding printed
 printed_is d r =
     ap (λ (t : List ℕ). row_text (codes "requests" ∷ version_of r.kept ∷ []) ++ (row_text (codes "tables" ∷ hex r.lo ∷ hex r.hi ∷ []) ++ t)) (blocks_are (map keep_row r.kept) (map context_row r.contexts) (flat_map (access_rows d r.contexts) r.accesses) (map (link_row d (access_names r.accesses)) r.links))
+
+chain : (o a b c d e f g : List ℕ) → ((((((o ++ a) ++ b) ++ c) ++ d) ++ e) ++ f) ++ g ≡ o ++ (a ++ (b ++ (c ++ (d ++ (e ++ (f ++ g))))))
+chain o a b c d e f g = simp append_assoc
+
+abbrev header_text : Requests → List ℕ
+header_text r = row_text (codes "requests" ∷ version_of r.kept ∷ [])
+
+abbrev bounds_text : Requests → List ℕ
+bounds_text r = row_text (codes "tables" ∷ hex r.lo ∷ hex r.hi ∷ [])
+
+abbrev kept_text : Requests → List ℕ
+kept_text r = text_of (map keep_row r.kept)
+
+abbrev contexts_text : Requests → List ℕ
+contexts_text r = text_of (map context_row r.contexts)
+
+abbrev accesses_text : ModelData → Requests → List ℕ
+accesses_text d r = text_of (flat_map (access_rows d r.contexts) r.accesses)
+
+abbrev links_text : ModelData → Requests → List ℕ
+links_text d r = text_of (map (link_row d (access_names r.accesses)) r.links)
+
+abbrev end_text : List ℕ
+end_text = row_text (codes "end" ∷ [])
+
+-- the text after each of the calls that append its parts
+pub printed_after : (d : ModelData) (r : Requests) (o a b c e f g h : List ℕ) → a ≡ o ++ header_text r → b ≡ a ++ bounds_text r → c ≡ b ++ kept_text r → e ≡ c ++ contexts_text r → f ≡ e ++ accesses_text d r → g ≡ f ++ links_text d r → h ≡ g ++ end_text → h ≡ o ++ printed d r
+printed_after d r o a b c e f g h pa pb pc pe pf pg ph =
+    ph
+    ∙ ap (λ (x : List ℕ). x ++ end_text) (pg ∙ ap (λ (x : List ℕ). x ++ links_text d r) (pf ∙ ap (λ (x : List ℕ). x ++ accesses_text d r) (pe ∙ ap (λ (x : List ℕ). x ++ contexts_text r) (pc ∙ ap (λ (x : List ℕ). x ++ kept_text r) (pb ∙ ap (λ (x : List ℕ). x ++ bounds_text r) pa)))))
+    ∙ chain o (header_text r) (bounds_text r) (kept_text r) (contexts_text r) (accesses_text d r) (links_text d r) end_text
+    ∙ ap (λ (x : List ℕ). o ++ x) (sym (printed_is d r))

@@ -146,9 +146,9 @@ address_small d n a le = let most : 2 ^ d.address ≤ 2 ^ 64 = pow_mono (accepte
 -- ---- demands
 
 -- the row is a short one that spells so
-record Prints (S : Row → Type 0) (row : Row) : Type 0 where
-  spells : S row
-  row : IsRow row
+pub record Prints (S : Row → Type 0) (row : Row) : Type 0 where
+  pub spells : S row
+  pub short : IsRow row
 
 record IsQuantityPrinted (d : ModelData) (q : Quantity) (row : Row) : Type 0 where
   spells : SpellsQuantity d q row
@@ -177,7 +177,7 @@ measured_printed d a s word w q m n first second =
     let nt = hex_token n (can_small d a q n second) in
     record {
       spells = (quantity_row d q, hex m, hex n, p.spells, number_of-hex m (can_small d a q m first), number_of-hex n (can_small d a q n second), refl);
-      row = row_ok word (quantity_row d q ++ hex m ∷ hex n ∷ []) (w, AllByRecursion-append IsToken (quantity_row d q) (hex m ∷ hex n ∷ []) p.tokens (mt, (nt, tt))) (omega (arith, p.few, length-append (quantity_row d q) (hex m ∷ hex n ∷ [])));
+      short = row_ok word (quantity_row d q ++ hex m ∷ hex n ∷ []) (w, AllByRecursion-append IsToken (quantity_row d q) (hex m ∷ hex n ∷ []) p.tokens (mt, (nt, tt))) (omega (arith, p.few, length-append (quantity_row d q) (hex m ∷ hex n ∷ [])));
     }
 
 node_printed : (d : ModelData) → AreSpelled d → (word : List ℕ) → IsToken word → (i : ℕ) → i < length d.nodes → Prints (SpellsNamed word (node_names d) i) (word ∷ name_text (node_names d) i ∷ [])
@@ -185,43 +185,43 @@ node_printed d s word w i lt =
     let in_names : i < length (node_names d) = omega (arith, lt, length-map d.nodes (λ n. n.name)) in
     record {
       spells = (name_text (node_names d) i, text_spells (node_names d) i s.nodes in_names, refl);
-      row = row_ok word (name_text (node_names d) i ∷ []) (w, (name_token (node_names d) i s.nodes in_names, tt)) (omega arith);
+      short = row_ok word (name_text (node_names d) i ∷ []) (w, (name_token (node_names d) i s.nodes in_names, tt)) (omega arith);
     }
 
 demand_printed : (d : ModelData) → IsAccepted d → AreSpelled d → (x : Demand) → IsDemand d x → Prints (SpellsDemand d x) (demand_row d x)
-demand_printed d a s (demand.Via i) h = let p = node_printed d s (codes "via") (word_token (codes "via") (omega arith) refl (omega arith)) i h in record { spells = p.spells; row = p.row }
-demand_printed d a s (demand.Avoid i) h = let p = node_printed d s (codes "avoid") (word_token (codes "avoid") (omega arith) refl (omega arith)) i h in record { spells = p.spells; row = p.row }
+demand_printed d a s (demand.Via i) h = let p = node_printed d s (codes "via") (word_token (codes "via") (omega arith) refl (omega arith)) i h in record { spells = p.spells; short = p.short }
+demand_printed d a s (demand.Avoid i) h = let p = node_printed d s (codes "avoid") (word_token (codes "avoid") (omega arith) refl (omega arith)) i h in record { spells = p.spells; short = p.short }
 demand_printed d a s (demand.Take i true) h =
     let lt = within_steps d i (λ p. IsTrue (is_fork p)) h in
     record {
       spells = (name_text (node_names d) i, text_spells (node_names d) i s.nodes lt, refl);
-      row = row_ok (codes "take") (name_text (node_names d) i ∷ codes "then" ∷ []) (word_token (codes "take") (omega arith) refl (omega arith), (name_token (node_names d) i s.nodes lt, (word_token (codes "then") (omega arith) refl (omega arith), tt))) (omega arith);
+      short = row_ok (codes "take") (name_text (node_names d) i ∷ codes "then" ∷ []) (word_token (codes "take") (omega arith) refl (omega arith), (name_token (node_names d) i s.nodes lt, (word_token (codes "then") (omega arith) refl (omega arith), tt))) (omega arith);
     }
 demand_printed d a s (demand.Take i false) h =
     let lt = within_steps d i (λ p. IsTrue (is_fork p)) h in
     record {
       spells = (name_text (node_names d) i, text_spells (node_names d) i s.nodes lt, refl);
-      row = row_ok (codes "take") (name_text (node_names d) i ∷ codes "else" ∷ []) (word_token (codes "take") (omega arith) refl (omega arith), (name_token (node_names d) i s.nodes lt, (word_token (codes "else") (omega arith) refl (omega arith), tt))) (omega arith);
+      short = row_ok (codes "take") (name_text (node_names d) i ∷ codes "else" ∷ []) (word_token (codes "take") (omega arith) refl (omega arith), (name_token (node_names d) i s.nodes lt, (word_token (codes "else") (omega arith) refl (omega arith), tt))) (omega arith);
     }
-demand_printed d a s demand.EndDone h = record { spells = refl; row = row_ok (codes "ends") (codes "done" ∷ []) (word_token (codes "ends") (omega arith) refl (omega arith), (word_token (codes "done") (omega arith) refl (omega arith), tt)) (omega arith) }
+demand_printed d a s demand.EndDone h = record { spells = refl; short = row_ok (codes "ends") (codes "done" ∷ []) (word_token (codes "ends") (omega arith) refl (omega arith), (word_token (codes "done") (omega arith) refl (omega arith), tt)) (omega arith) }
 demand_printed d a s (demand.EndFault code) h =
     let small : code < 2 ^ 128 = omega (arith, h) in
     record {
       spells = (decimal code, number_of-decimal code small, refl);
-      row = row_ok (codes "ends") (codes "fault" ∷ decimal code ∷ []) (word_token (codes "ends") (omega arith) refl (omega arith), (word_token (codes "fault") (omega arith) refl (omega arith), (decimal_token code small, tt))) (omega arith);
+      short = row_ok (codes "ends") (codes "fault" ∷ decimal code ∷ []) (word_token (codes "ends") (omega arith) refl (omega arith), (word_token (codes "fault") (omega arith) refl (omega arith), (decimal_token code small, tt))) (omega arith);
     }
 demand_printed d a s (demand.Page exponent) h =
     let small : exponent < 2 ^ 128 = omega (arith, h, (accepted_address d a).1) in
     record {
       spells = (decimal exponent, number_of-decimal exponent small, refl);
-      row = row_ok (codes "page") (decimal exponent ∷ []) (word_token (codes "page") (omega arith) refl (omega arith), (decimal_token exponent small, tt)) (omega arith);
+      short = row_ok (codes "page") (decimal exponent ∷ []) (word_token (codes "page") (omega arith) refl (omega arith), (decimal_token exponent small, tt)) (omega arith);
     }
 demand_printed d a s (demand.Bits of mask value) h =
     let p = measured_printed d a s (codes "bits") (word_token (codes "bits") (omega arith) refl (omega arith)) of mask value h.0 h.1 in
-    record { spells = p.spells; row = p.row }
+    record { spells = p.spells; short = p.short }
 demand_printed d a s (demand.Span of lo hi) h =
     let p = measured_printed d a s (codes "range") (word_token (codes "range") (omega arith) refl (omega arith)) of lo hi h.0 h.1 in
-    record { spells = p.spells; row = p.row }
+    record { spells = p.spells; short = p.short }
 
 -- ---- links
 
@@ -231,13 +231,13 @@ sides_printed d s names are word kind w k a b first second =
     let n = within_steps d b.node (λ p. IsTrue (is_read p)) second.1 in
     record {
       spells = (name_text names a.access, name_text (node_names d) a.node, name_text names b.access, name_text (node_names d) b.node, text_spells names a.access are first.0, text_spells (node_names d) a.node s.nodes m, text_spells names b.access are second.0, text_spells (node_names d) b.node s.nodes n, refl);
-      row = row_ok word (kind ∷ sides_row d names a b) (w, (k, (name_token names a.access are first.0, (name_token (node_names d) a.node s.nodes m, (name_token names b.access are second.0, (name_token (node_names d) b.node s.nodes n, tt)))))) (omega arith);
+      short = row_ok word (kind ∷ sides_row d names a b) (w, (k, (name_token names a.access are first.0, (name_token (node_names d) a.node s.nodes m, (name_token names b.access are second.0, (name_token (node_names d) b.node s.nodes n, tt)))))) (omega arith);
     }
 
 pages_printed : (names : List Name) → All IsName names → (word : List ℕ) → IsToken word → (a b : ℕ) → a < length names → b < length names → Prints (SpellsPages word names a b) (word ∷ codes "page" ∷ pages_row names a b)
 pages_printed names are word w a b first second = record {
   spells = (name_text names a, name_text names b, text_spells names a are first, text_spells names b are second, refl);
-  row = row_ok word (codes "page" ∷ pages_row names a b) (w, (word_token (codes "page") (omega arith) refl (omega arith), (name_token names a are first, (name_token names b are second, tt)))) (omega arith);
+  short = row_ok word (codes "page" ∷ pages_row names a b) (w, (word_token (codes "page") (omega arith) refl (omega arith), (name_token names a are first, (name_token names b are second, tt)))) (omega arith);
 }
 
 share_token : IsToken (codes "share")
@@ -250,75 +250,75 @@ table_token : IsToken (codes "table")
 table_token = word_token (codes "table") (omega arith) refl (omega arith)
 
 link_printed : (d : ModelData) → AreSpelled d → (names : List Name) → All IsName names → (x : Link) → IsLink d (length names) x → Prints (SpellsLink d names x) (link_row d names x)
-link_printed d s names are (link.ShareTable a b) h = let p = sides_printed d s names are (codes "share") (codes "table") share_token table_token a b h.0 h.1 in record { spells = p.spells; row = p.row }
-link_printed d s names are (link.ShareCell a b) h = let p = sides_printed d s names are (codes "share") (codes "cell") share_token (word_token (codes "cell") (omega arith) refl (omega arith)) a b h.0 h.1 in record { spells = p.spells; row = p.row }
-link_printed d s names are (link.SharePage a b) h = let p = pages_printed names are (codes "share") share_token a b h.0 h.1 in record { spells = p.spells; row = p.row }
-link_printed d s names are (link.ApartTable a b) h = let p = sides_printed d s names are (codes "apart") (codes "table") apart_token table_token a b h.0 h.1 in record { spells = p.spells; row = p.row }
-link_printed d s names are (link.ApartPage a b) h = let p = pages_printed names are (codes "apart") apart_token a b h.0 h.1 in record { spells = p.spells; row = p.row }
+link_printed d s names are (link.ShareTable a b) h = let p = sides_printed d s names are (codes "share") (codes "table") share_token table_token a b h.0 h.1 in record { spells = p.spells; short = p.short }
+link_printed d s names are (link.ShareCell a b) h = let p = sides_printed d s names are (codes "share") (codes "cell") share_token (word_token (codes "cell") (omega arith) refl (omega arith)) a b h.0 h.1 in record { spells = p.spells; short = p.short }
+link_printed d s names are (link.SharePage a b) h = let p = pages_printed names are (codes "share") share_token a b h.0 h.1 in record { spells = p.spells; short = p.short }
+link_printed d s names are (link.ApartTable a b) h = let p = sides_printed d s names are (codes "apart") (codes "table") apart_token table_token a b h.0 h.1 in record { spells = p.spells; short = p.short }
+link_printed d s names are (link.ApartPage a b) h = let p = pages_printed names are (codes "apart") apart_token a b h.0 h.1 in record { spells = p.spells; short = p.short }
 
 -- ---- other lines
 
 bounds_printed : (word : List ℕ) → IsToken word → (lo hi : ℕ) → lo < 2 ^ 128 → hi < 2 ^ 128 → Prints (SpellsBounds word lo hi) (word ∷ hex lo ∷ hex hi ∷ [])
 bounds_printed word w lo hi p q = record {
   spells = (hex lo, hex hi, number_of-hex lo p, number_of-hex hi q, refl);
-  row = row_ok word (hex lo ∷ hex hi ∷ []) (w, (hex_token lo p, (hex_token hi q, tt))) (omega arith);
+  short = row_ok word (hex lo ∷ hex hi ∷ []) (w, (hex_token lo p, (hex_token hi q, tt))) (omega arith);
 }
 
 kept_printed : (d : ModelData) → IsAccepted d → (k : KeptRange) → IsKept d k → Prints (SpellsKept k) (keep_row k)
 kept_printed d a k h =
     let high = address_small d k.hi a h.within in
     let p = bounds_printed (codes "keep") (word_token (codes "keep") (omega arith) refl (omega arith)) k.lo k.hi (omega (arith, h.rising, high)) high in
-    record { spells = p.spells; row = p.row }
+    record { spells = p.spells; short = p.short }
 
 context_printed : (n : Name) → IsName n → Prints (SpellsContext n) (context_row n)
 context_printed n is = record {
   spells = (bytes_of n, is, refl);
-  row = row_ok (codes "context") (bytes_of n ∷ []) (word_token (codes "context") (omega arith) refl (omega arith), (spelling_token (bytes_of n) n is, tt)) (omega arith);
+  short = row_ok (codes "context") (bytes_of n ∷ []) (word_token (codes "context") (omega arith) refl (omega arith), (spelling_token (bytes_of n) n is, tt)) (omega arith);
 }
 
 access_printed : (contexts : List Name) → All IsName contexts → (a : AccessWish) → IsName a.name → a.context < length contexts → Prints (SpellsAccess contexts a) (codes "access" ∷ bytes_of a.name ∷ name_text contexts a.context ∷ [])
 access_printed contexts are a is lt = record {
   spells = (bytes_of a.name, name_text contexts a.context, is, text_spells contexts a.context are lt, refl);
-  row = row_ok (codes "access") (bytes_of a.name ∷ name_text contexts a.context ∷ []) (word_token (codes "access") (omega arith) refl (omega arith), (spelling_token (bytes_of a.name) a.name is, (name_token contexts a.context are lt, tt))) (omega arith);
+  short = row_ok (codes "access") (bytes_of a.name ∷ name_text contexts a.context ∷ []) (word_token (codes "access") (omega arith) refl (omega arith), (spelling_token (bytes_of a.name) a.name is, (name_token contexts a.context are lt, tt))) (omega arith);
 }
 
 -- ---- blocks of lines
 
 -- the rows are short ones that spell so, and are so many at most
-record PrintsAll (S : List Row → Type 0) (most : ℕ) (rows : List Row) : Type 0 where
-  spells : S rows
-  rows : AllByRecursion IsRow rows
-  few : length rows ≤ most
+pub record PrintsAll (S : List Row → Type 0) (most : ℕ) (rows : List Row) : Type 0 where
+  pub spells : S rows
+  pub short : AllByRecursion IsRow rows
+  pub few : length rows ≤ most
 
 each_printed : {X : Type 0} (R : X → Row → Type 0) (P : X → Type 0) (row : X → Row) (xs : List X) → ((x : X) → P x → Prints (R x) (row x)) → All P xs → PrintsAll (SpellEach R xs) (length xs) (map row xs)
-each_printed R P row [] h are = record { spells = tt; rows = tt; few = omega arith }
+each_printed R P row [] h are = record { spells = tt; short = tt; few = omega arith }
 each_printed R P row (x ∷ xs) h are =
     let p = h x (All-head P x xs are) in
     let q = each_printed R P row xs h (All-tail P x xs are) in
-    record { spells = (p.spells, q.spells); rows = (p.row, q.rows); few = omega (arith, q.few) }
+    record { spells = (p.spells, q.spells); short = (p.short, q.short); few = omega (arith, q.few) }
 
 wish_printed : (d : ModelData) → IsAccepted d → AreSpelled d → (contexts : List Name) → All IsName contexts → (a : AccessWish) → IsName a.name → IsWish d (length contexts) a → PrintsAll (SpellWish d contexts a) 65 (access_rows d contexts a)
 wish_printed d acc s contexts are a name is =
     let p = access_printed contexts are a name is.context in
     let q = each_printed (SpellsDemand d) (IsDemand d) (demand_row d) a.demands (demand_printed d acc s) is.demands in
-    record { spells = (p.spells, q.spells); rows = (p.row, q.rows); few = omega (arith, q.few, is.few_demands) }
+    record { spells = (p.spells, q.spells); short = (p.short, q.short); few = omega (arith, q.few, is.few_demands) }
 
 wishes_printed : (d : ModelData) → IsAccepted d → AreSpelled d → (contexts : List Name) → All IsName contexts → (wishes : List AccessWish) → All IsName (access_names wishes) → All (IsWish d (length contexts)) wishes → PrintsAll (SpellWishes d contexts wishes) (length wishes * 65) (flat_map (access_rows d contexts) wishes)
-wishes_printed d acc s contexts are [] names is = record { spells = refl; rows = tt; few = omega arith }
+wishes_printed d acc s contexts are [] names is = record { spells = refl; short = tt; few = omega arith }
 wishes_printed d acc s contexts are (a ∷ wishes) names is =
     let p = wish_printed d acc s contexts are a (All-head IsName a.name (access_names wishes) names) (All-head (IsWish d (length contexts)) a wishes is) in
     let q = wishes_printed d acc s contexts are wishes (All-tail IsName a.name (access_names wishes) names) (All-tail (IsWish d (length contexts)) a wishes is) in
     record {
       spells = (access_rows d contexts a, flat_map (access_rows d contexts) wishes, p.spells, q.spells, refl);
-      rows = AllByRecursion-append IsRow (access_rows d contexts a) (flat_map (access_rows d contexts) wishes) p.rows q.rows;
+      short = AllByRecursion-append IsRow (access_rows d contexts a) (flat_map (access_rows d contexts) wishes) p.short q.short;
       few = omega (arith, p.few, q.few, length-append (access_rows d contexts a) (flat_map (access_rows d contexts) wishes));
     }
 
 -- ---- the whole list
 
 header_printed : (kept : List KeptRange) → Prints (SpellsHeader kept) (codes "requests" ∷ version_of kept ∷ [])
-header_printed [] = record { spells = inl (refl, refl); row = row_ok (codes "requests") (codes "1" ∷ []) (word_token (codes "requests") (omega arith) refl (omega arith), (word_token (codes "1") (omega arith) refl (omega arith), tt)) (omega arith) }
-header_printed (k ∷ ks) = record { spells = inr refl; row = row_ok (codes "requests") (codes "2" ∷ []) (word_token (codes "requests") (omega arith) refl (omega arith), (word_token (codes "2") (omega arith) refl (omega arith), tt)) (omega arith) }
+header_printed [] = record { spells = inl (refl, refl); short = row_ok (codes "requests") (codes "1" ∷ []) (word_token (codes "requests") (omega arith) refl (omega arith), (word_token (codes "1") (omega arith) refl (omega arith), tt)) (omega arith) }
+header_printed (k ∷ ks) = record { spells = inr refl; short = row_ok (codes "requests") (codes "2" ∷ []) (word_token (codes "requests") (omega arith) refl (omega arith), (word_token (codes "2") (omega arith) refl (omega arith), tt)) (omega arith) }
 
 pub list_printed : (d : ModelData) (r : Requests) → IsAccepted d → HaveNames d → IsList d r → PrintsAll (Spell d r) 4451 (rows_of d r)
 list_printed d r a names is =
@@ -353,7 +353,7 @@ list_printed d r a names is =
         accesses_spelled = accesses.spells;
         links_spelled = links.spells;
       };
-      rows = (header.row, (bounds.row, AllByRecursion-append IsRow ks _ kept.rows (AllByRecursion-append IsRow cs _ contexts.rows (AllByRecursion-append IsRow accs _ accesses.rows (AllByRecursion-append IsRow ls last links.rows (end, tt))))));
+      short = (header.short, (bounds.short, AllByRecursion-append IsRow ks _ kept.short (AllByRecursion-append IsRow cs _ contexts.short (AllByRecursion-append IsRow accs _ accesses.short (AllByRecursion-append IsRow ls last links.short (end, tt))))));
       few = omega (arith, length-append ks (cs ++ (accs ++ (ls ++ last))), length-append cs (accs ++ (ls ++ last)), length-append accs (ls ++ last), length-append ls last, kept.few, contexts.few, accesses.few, links.few, is.few_kept, is.few_contexts, is.few_accesses, is.few_links);
     }
 
@@ -366,7 +366,7 @@ text_short (row ∷ rows) h =
 -- a printed list is no longer than a text that is read may be
 pub printed_short : (d : ModelData) (r : Requests) → IsAccepted d → HaveNames d → IsList d r → length (printed d r) < 2 ^ 32 - 1
 unfolding printed
-printed_short d r a names is = let p = list_printed d r a names is in omega (arith, text_short (rows_of d r) p.rows, p.few)
+printed_short d r a names is = let p = list_printed d r a names is in omega (arith, text_short (rows_of d r) p.short, p.few)
 
 -- and reads back as the list
 pub reads_back : (d : ModelData) (r : Requests) → IsAccepted d → HaveNames d → IsList d r → reading d (printed d r) ≡ Ok r
@@ -374,4 +374,4 @@ unfolding printed reading declared
 reads_back d r a names is =
     let p = list_printed d r a names is in
     let to = list_read d r (rows_of d r) a is p.spells in
-    reading_printed (grammar d) added finished (rows_of d r) (state 7 to.0 r) adds_up p.rows (rows_run d 1 nothing (state 7 to.0 r) (rows_of d r) to.1)
+    reading_printed (grammar d) added finished (rows_of d r) (state 7 to.0 r) adds_up p.short (rows_run d 1 nothing (state 7 to.0 r) (rows_of d r) to.1)

@@ -81,8 +81,8 @@ kept_read d p r (k ∷ ks) (row ∷ rows) low high few are h = (
   entry.Keep k,
   meaning_is d (state p true r) row (line.Keep k.lo k.hi) (entry.Keep k) (ap spelled_row h.0.4 ∙ keep_line h.0.0 h.0.1 k.lo k.hi h.0.2 h.0.3) (follows 2 2 p refl low (omega arith)) refl (kept_entry_is d r k (omega arith) (All-head (IsKept d) k ks are)),
   read_to d _ _ _ rows
-  (λ i. state (stays 3 ks i) true (record r { kept = append_assoc r.kept (k ∷ []) ks i }))
-  (kept_read d 3 (record r { kept = r.kept ++ k ∷ [] }) ks rows (omega arith) (omega arith) (omega (arith, length-append r.kept (k ∷ []))) (All-tail (IsKept d) k ks are) h.1),
+      (λ i. state (stays 3 ks i) true (record r { kept = append_assoc r.kept (k ∷ []) ks i }))
+      (kept_read d 3 (record r { kept = r.kept ++ k ∷ [] }) ks rows (omega arith) (omega arith) (omega (arith, length-append r.kept (k ∷ []))) (All-tail (IsKept d) k ks are) h.1),
 )
 
 -- ---- contexts
@@ -100,8 +100,8 @@ contexts_read d p keeps r (c ∷ cs) (row ∷ rows) low high few names h = (
   entry.Context c,
   meaning_is d (state p keeps r) row (line.Context c) (entry.Context c) (ap spelled_row h.0.2 ∙ context_line h.0.0 c h.0.1) (follows 3 3 p refl low (omega arith)) refl (context_entry_is d r c cs (omega arith) names),
   read_to d _ _ _ rows
-  (λ i. state (stays 4 cs i) keeps (record r { contexts = append_assoc r.contexts (c ∷ []) cs i }))
-  (contexts_read d 4 keeps (record r { contexts = r.contexts ++ c ∷ [] }) cs rows (omega arith) (omega arith) (omega (arith, length-append r.contexts (c ∷ []))) (subst AreNames (sym (append_assoc r.contexts (c ∷ []) cs)) names) h.1),
+      (λ i. state (stays 4 cs i) keeps (record r { contexts = append_assoc r.contexts (c ∷ []) cs i }))
+      (contexts_read d 4 keeps (record r { contexts = r.contexts ++ c ∷ [] }) cs rows (omega arith) (omega arith) (omega (arith, length-append r.contexts (c ∷ []))) (subst AreNames (sym (append_assoc r.contexts (c ∷ []) cs)) names) h.1),
 )
 
 -- ---- demands
@@ -128,13 +128,12 @@ demands_read d k keeps r before w [] [] is few are h = λ i. state 5 keeps (reco
 demands_read d k keeps r before w [] (row ∷ rows) is few are h = absurd h
 demands_read d k keeps r before w (x ∷ xs) [] is few are h = absurd h
 demands_read d k keeps r before w (x ∷ xs) (row ∷ rows) is few are h =
-    let q = demand_read d k x row (All-head (IsDemand d) x xs are) h.0 in
-    (
+    let q = demand_read d k x row (All-head (IsDemand d) x xs are) h.0 in (
       entry.Demand x,
       meaning_is d (state 5 keeps r) row (line.Demand q.asked) (entry.Demand x) q.line refl refl (demand_entry_is d r before w q.asked x is (omega arith) q.stands),
       read_to d _ _ _ rows
-      (λ i. state 5 keeps (record r { accesses = before ++ wanting w (append_assoc w.demands (x ∷ []) xs i) ∷ [] }))
-      (demands_read d k keeps (record r { accesses = with_demand r.accesses x }) before (wanting w (w.demands ++ x ∷ [])) xs rows (ap (λ (l : List AccessWish). with_demand l x) is ∙ with_last before w x) (omega (arith, length-append w.demands (x ∷ []))) (All-tail (IsDemand d) x xs are) h.1),
+          (λ i. state 5 keeps (record r { accesses = before ++ wanting w (append_assoc w.demands (x ∷ []) xs i) ∷ [] }))
+          (demands_read d k keeps (record r { accesses = with_demand r.accesses x }) before (wanting w (w.demands ++ x ∷ [])) xs rows (ap (λ (l : List AccessWish). with_demand l x) is ∙ with_last before w x) (omega (arith, length-append w.demands (x ∷ []))) (All-tail (IsDemand d) x xs are) h.1),
     )
 
 -- ---- accesses
@@ -171,14 +170,13 @@ links_read d k p keeps r [] [] low high few placed are h = λ i. state p keeps (
 links_read d k p keeps r [] (row ∷ rows) low high few placed are h = absurd h
 links_read d k p keeps r (l ∷ ls) [] low high few placed are h = absurd h
 links_read d k p keeps r (l ∷ ls) (row ∷ rows) low high few placed are h =
-    let q = link_read d k r placed l row (All-head (IsLink d (length r.accesses)) l ls are) h.0 in
-    (
+    let q = link_read d k r placed l row (All-head (IsLink d (length r.accesses)) l ls are) h.0 in (
       entry.Link l,
       meaning_is d (state p keeps r) row (line.Link q.asked) (entry.Link l) q.line (follows 5 5 p refl low (omega arith)) refl
-      (cond-true (ltb (length r.links) 256) _ (Err TooMany) (lt-ltb (length r.links) 256 (omega arith)) ∙ ap (λ (o : Option Link). known o >>= λ y. Ok (entry.Link y)) q.stands),
+          (cond-true (ltb (length r.links) 256) _ (Err TooMany) (lt-ltb (length r.links) 256 (omega arith)) ∙ ap (λ (o : Option Link). known o >>= λ y. Ok (entry.Link y)) q.stands),
       read_to d _ _ _ rows
-      (λ i. state (stays 6 ls i) keeps (record r { links = append_assoc r.links (l ∷ []) ls i }))
-      (links_read d k 6 keeps (record r { links = r.links ++ l ∷ [] }) ls rows (omega arith) (omega arith) (omega (arith, length-append r.links (l ∷ []))) placed (All-tail (IsLink d (length r.accesses)) l ls are) h.1),
+          (λ i. state (stays 6 ls i) keeps (record r { links = append_assoc r.links (l ∷ []) ls i }))
+          (links_read d k 6 keeps (record r { links = r.links ++ l ∷ [] }) ls rows (omega arith) (omega arith) (omega (arith, length-append r.links (l ∷ []))) placed (All-tail (IsLink d (length r.accesses)) l ls are) h.1),
     )
 
 -- ---- the whole list
@@ -248,8 +246,7 @@ body_read d a keeps r rows none is h =
 
 tables_read : (d : ModelData) → IsAccepted d → (keeps : Bool) (r : Requests) (rows : List Row) → (keeps ≡ false → r.kept ≡ []) → IsList d r → (h : Spell d r rows) → AreRead d (state 1 keeps (nothing).list) (h.bounds ∷ (h.kept ++ (h.contexts ++ (h.accesses ++ (h.links ++ (codes "end" ∷ []) ∷ []))))) (state 7 keeps r)
 tables_read d a keeps r rows none is h =
-    let b = h.bounds_spelled in
-    (
+    let b = h.bounds_spelled in (
       entry.Tables r.lo r.hi,
       meaning_is d (state 1 keeps (nothing).list) h.bounds (line.Tables r.lo r.hi) (entry.Tables r.lo r.hi) (ap spelled_row b.4 ∙ tables_line b.0 b.1 r.lo r.hi b.2 b.3) refl refl (cond-true (bounds_fit d r.lo r.hi) (Ok (entry.Tables r.lo r.hi)) (Err OutOfRange) (bounds_test d r.lo r.hi is.bounds)),
       body_read d a keeps r rows none is h,

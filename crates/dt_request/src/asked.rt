@@ -73,9 +73,7 @@ pub enum AskedLink {
 #[derive(Clone, Copy)]
 pub enum Line {
     /// `requests 1`, or `requests 2`, where kept ranges may stand
-    Header {
-        keeps: bool,
-    },
+    Header { keeps: bool },
     /// `tables LO HI`
     Tables(u128, u128),
     /// `keep LO HI`

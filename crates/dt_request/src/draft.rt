@@ -30,11 +30,7 @@ pub struct Draft {
 }
 
 /// Adds a context, and where it stands.
-fn add_context(
-    contexts: &mut Vec<Name>,
-    table: &mut NameTable,
-    name: Name,
-) -> Result<(), NoMemory>
+fn add_context(contexts: &mut Vec<Name>, table: &mut NameTable, name: Name) -> Result<(), NoMemory>
     requires few { length contexts.old.items ≤ 16 }
     requires found { Finds table.old contexts.old.items }
     ensures names { OnOk result (contexts.new.items ≡ contexts.old.items ++ name ∷ []) }

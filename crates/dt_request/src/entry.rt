@@ -326,7 +326,8 @@ pub fn meaning(known: &Known, draft: &Draft, line: Option<Line>) -> Result<Entry
     match line {
         None => Err(Cause::Form),
         Some(line) => {
-            if may_follow(&SECTIONS, draft.place, standing(&line)) && is_allowed(draft.keeps, &line)
+            if may_follow(&SECTIONS, draft.place, standing(&line))
+                && is_allowed(draft.keeps, &line)
             {
                 entry_of(known, draft, line)
             } else {

@@ -94,11 +94,12 @@ impl fmt::Display for RequestFault {
             RequestFault::Memory => f.write_str("memory ran out"),
             RequestFault::Lex(fault) => write!(f, "{fault}"),
             RequestFault::Form(line) => write!(f, "line {line} is no line of a list here"),
-            RequestFault::TooMany(line) => {
-                write!(f, "line {line} has one of its kind too many")
-            }
+            RequestFault::TooMany(line) => { write!(f, "line {line} has one of its kind too many") }
             RequestFault::Unknown(line) => {
-                write!(f, "line {line} has a name that isn't declared as it is used")
+                write!(
+                    f,
+                    "line {line} has a name that isn't declared as it is used"
+                )
             }
             RequestFault::Twice(line) => write!(f, "line {line} has a name that is taken"),
             RequestFault::OutOfRange(line) => {

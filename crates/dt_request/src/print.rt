@@ -324,7 +324,6 @@ fn version_of(kept: &[KeptRange]) -> &'static [u8]
     if kept.is_empty() { b"1" } else { b"2" }
 }
 
-#[tactic(auto, using(crate::proofs::Printed::printed_is, std::proofs::lemmas::List::append_assoc))]
 fn push_list(out: &mut Vec<u8>, model: &Model, list: &Requests) -> Result<(), AllocError>
     ensures { OnOk result (out.new.items
         ≡ out.old.items ++ printed (data_of model.now) list.now) }
