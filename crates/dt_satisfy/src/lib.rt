@@ -1,6 +1,7 @@
 //! The judge: whether an image meets a request list. It walks the model's graph for each access of
 //! the image, and asks in order whether the model's rules of legality hold, whether each demand is
-//! met, whether each link holds, and whether no page of a run overlaps a table of any run.
+//! met, whether each link holds, whether no page of a run overlaps a table of any run, and whether
+//! no page and no table of a run touches a kept range.
 //!
 //! Proved: `matches` holds exactly where the image has the list's table bounds, as many contexts, as
 //! many accesses, and each access its context; `judge` gives `Satisfies` exactly where all claims of
