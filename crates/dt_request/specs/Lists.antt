@@ -1,5 +1,5 @@
 -- Request lists of a model: each bound, count, name, position, width and code in them is as the text of a list asks.
-use Rattle.std.specs.Prelude.{◌≡◌, ◌≢◌, ℕ, ◌^◌, ◌<◌, ◌≤◌, Bool, true, false, if◌then◌else◌, List, [], length, map, Option, Some, None, slice_get, IsTrue, IsSomeAnd, All, AllPairs}
+use Rattle.std.specs.Prelude.{◌≢◌, ℕ, ◌^◌, ◌<◌, ◌≤◌, Bool, true, false, if◌then◌else◌, List, [], length, map, Option, Some, None, slice_get, IsTrue, IsSomeAnd, All, AllPairs}
 use Rattle.dt_lex.specs.declared.name.Name.{Name}
 use Rattle.dt_lex.specs.Names.{IsName}
 use Rattle.dt_model.specs.Limits.{most_code}
@@ -116,17 +116,3 @@ pub record IsList (d : ModelData) (r : Requests) : Type 0 where
   pub accesses : All (IsWish d (length r.contexts)) r.accesses
   pub few_links : length r.links ≤ most_links
   pub links : All (IsLink d (length r.accesses)) r.links
-
--- ---- lists that ask for ends alone
-
--- a demand on the end of the walk
-abbrev pub IsOnEnd : Demand → Type 0
-IsOnEnd EndDone = Unit {0}
-IsOnEnd (EndFault code) = Unit {0}
-IsOnEnd _ = ⊥
-
--- each demand is on the end of its walk, and there is no link and no kept range
-pub record AsksEndsAlone (r : Requests) : Type 0 where
-  pub demands : All (λ (a : AccessWish). All IsOnEnd a.demands) r.accesses
-  pub links : r.links ≡ []
-  pub kept : r.kept ≡ []

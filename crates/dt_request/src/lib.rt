@@ -16,15 +16,20 @@
 //! Not proved: that reading succeeds where there is memory.
 #![tactic(auto)]
 
+mod asked;
 mod counting;
 mod draft;
 mod entry;
 mod fault;
+mod known;
 mod line;
 mod list;
+mod measure;
+mod print;
 mod read;
 
 pub use counting::{choice_bits, choice_count};
 pub use fault::RequestFault;
 pub use list::{AccessWish, Demand, KeptRange, Link, Quantity, Requests, Side};
+pub use print::print_requests;
 pub use read::read_requests;
