@@ -3,3 +3,4 @@ pub mod Counts
 pub mod Verdicts
 pub mod Joined
 pub mod Ends
+pub mod Bytes

@@ -1,6 +1,7 @@
 ghost use Rattle.std.specs.Prelude.{◌≡◌, ◌+◌, ◌/◌, ◌%◌, ◌^◌, nat_lt, ◌++◌, map, OnOk};
 ghost use Rattle.std.specs.List.{list_any};
 ghost use Rattle.dt_satisfy.specs.Blocks.{block_at, is_block, overlap, are_apart, touches, some_touches, is_kept};
+ghost use Rattle.dt_satisfy.specs.Bytes.{BlocksAreBytes};
 
 use dt_bits::NoMemory;
 use dt_request::KeptRange;
@@ -122,3 +123,10 @@ pub fn push_kept(
     }
     Ok(())
 }
+
+/// A law of blocks; the call does nothing. The block at an address has it; two blocks overlap exactly
+/// where some byte is in both; and a block touches a kept range exactly where some byte is in both.
+#[tactic(auto, using(crate::proofs::Bytes::blocks_are_bytes))]
+pub fn blocks_are_bytes()
+    ensures { BlocksAreBytes }
+{}

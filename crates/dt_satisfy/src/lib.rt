@@ -7,6 +7,8 @@
 //! many accesses, and each access its context; `judge` gives `Satisfies` exactly where all claims of
 //! the list about the image hold, and else `Breaks` with the number, counted from 1, of the first
 //! that doesn't, for every list of the model. The definitions say what each demand means.
+//! `blocks_are_bytes` says of blocks and kept ranges that they overlap and touch exactly where they
+//! have a byte in common.
 #![tactic(auto)]
 
 mod block;
@@ -18,6 +20,7 @@ mod rules;
 mod runs;
 mod verdict;
 
+pub use block::blocks_are_bytes;
 pub use judging::judge;
 pub use matching::matches;
 pub use verdict::Judged;
