@@ -1,0 +1,63 @@
+-- Settling: what is queued, and what the steps that were taken lead to.
+use Rattle.std.specs.Prelude.{◌≡◌, ℕ, ◌+◌, ◌*◌, ◌<◌, ◌==◌, Bool, true, false, ◌||◌, List, [], ◌∷◌, ◌++◌, length, slice_index_or}
+use Rattle.std.specs.List.{list_any, range_with_len}
+use Rattle.dt_domain.specs.Domain.{DomainOps}
+use Rattle.dt_terms.specs.declared.term.Term.{Term}
+use Rattle.dt_box.specs.declared.step.Step.{Step}
+use Rattle.dt_box.specs.declared.step.Step.TheVariants as steps
+use Rattle.dt_box.specs.Cells.{cell_at, AreCells}
+use Rattle.dt_box.specs.Steps.{IsStep, after_step}
+use Rattle.dt_box.specs.Stillness.{HasNoEmpty, tells, origin}
+use Rattle.dt_box.specs.Trails.{IsKept}
+use Rattle.dt_log.specs.declared.line.Line.{Line}
+use Rattle.dt_log.specs.declared.line.Line.TheVariants.{Forward, Backward}
+use Rattle.dt_check.specs.Unknown.{unknown_of}
+use Rattle.dt_propagate.specs.declared.settling.Settled.{Settled}
+use Rattle.dt_propagate.specs.declared.settling.Settled.TheVariants.{Quiet, Empty}
+
+-- the term itself, and the nodes that use it
+abbrev pub near_nodes : List (List ℕ) → ℕ → List ℕ
+near_nodes watches t = t ∷ slice_index_or watches t []
+
+abbrev pub is_queued : List ℕ → ℕ → Bool
+is_queued queue n = list_any (λ m. m == n) queue
+
+-- each step that tells something new goes from a node in the queue
+abbrev pub IsQueued : {D : Type 0} → DomainOps D → List Term → List D → List ℕ → Type 0
+IsQueued ops terms cells queue = (s : Step) → IsStep terms s → tells ops terms s cells ≡ true → is_queued queue (origin s) ≡ true
+
+-- or from this node
+abbrev pub IsQueuedBut : {D : Type 0} → DomainOps D → List Term → List D → List ℕ → ℕ → Type 0
+IsQueuedBut ops terms cells queue node =
+    (s : Step) → IsStep terms s → tells ops terms s cells ≡ true → (node == origin s || is_queued queue (origin s)) ≡ true
+
+abbrev pub step_line : Step → Line
+step_line (steps.Forward t) = Forward t
+step_line (steps.Backward p k) = Backward p k
+
+-- the lines are steps of the problem that lead from the old cells to the new ones
+unfoldable pub Leads : {D : Type 0} → DomainOps D → List Term → List Line → List D → List D → Type 0
+Leads ops terms [] old new = old ≡ new
+Leads ops terms (line ∷ lines) old new =
+    (s : Step) × (step_line s ≡ line) × IsStep terms s × Leads ops terms lines (after_step ops terms s old) new
+
+-- lines were added that do so
+pub record IsLogged {D : Type 0} (ops : DomainOps D) (terms : List Term) (old : List D) (lines : List Line) (new : List D) (more : List Line) : Type 0 where
+  pub added : List Line
+  pub lines_are : more ≡ lines ++ added
+  pub leads : Leads ops terms added old new
+
+-- the cells are of the problem, changes were kept, and the steps logged
+pub record IsProgress {D : Type 0} (ops : DomainOps D) (terms : List Term) (old : List D) (trail : List (ℕ × D)) (lines : List Line) (new : List D) (longer : List (ℕ × D)) (more : List Line) : Type 0 where
+  pub cells : AreCells ops terms new
+  pub kept : IsKept old trail new longer
+  pub logged : IsLogged ops terms old lines new more
+
+-- the cell of the term is empty; or none is, and this holds
+abbrev pub IsEnd : {D : Type 0} → DomainOps D → List Term → Settled → List D → Type 0 → Type 0
+IsEnd ops terms Quiet cells P = HasNoEmpty ops cells × P
+IsEnd ops terms (Empty t) cells P = (t < length terms) × (ops.is_empty (cell_at ops cells t) ≡ true)
+
+-- what bounds the work that is left: a step makes a bit known and queues no more nodes than there are
+abbrev pub cost : {D : Type 0} → DomainOps D → List Term → List D → List ℕ → ℕ
+cost ops terms cells queue = (length terms + 1) * unknown_of ops terms cells (range_with_len 0 (length terms)) + length queue
