@@ -7,3 +7,6 @@ pub mod Roots
 pub mod Stillness
 pub mod Knowledge
 pub mod Trails
+pub mod Buckets
+pub mod Users
+pub mod Watching

@@ -37,6 +37,10 @@ module _ {D : Type 0} where
   unfolding undone
   undone_more cells change later = refl
 
+  pub length-undone : (cells : List D) (changes : List (ℕ × D)) → length (undone cells changes) ≡ length cells
+  length-undone cells [] = ap length (undone_none cells)
+  length-undone cells (change ∷ later) = ap length (undone_more cells change later) ∙ length-set (undone cells later) change.0 change.1 ∙ length-undone cells later
+
   -- the latest change is undone first
   pub undone_last : (cells : List D) (trail : List (ℕ × D)) (t : ℕ) (d : D) → undone cells (trail ++ (t, d) ∷ []) ≡ undone (set cells t d) trail
   undone_last cells [] t d = undone_more cells (t, d) [] ∙ ap (λ c. set c t d) (undone_none cells) ∙ sym (undone_none (set cells t d))

@@ -5,3 +5,6 @@ pub mod Stillness
 pub mod Neighbours
 pub mod Assignments
 pub mod Trails
+pub mod Watching
+pub mod Buckets
+pub mod Users

@@ -1,9 +1,10 @@
 use crate::change::{change_of, put};
+use crate::near::are_settled_after;
 use crate::propagation::{narrowed, target};
 use crate::root::{full_cells, require_ones};
 use crate::sweep::{first_empty, first_step, step_from, tells};
 use crate::trail::{keep, undo_to};
-use crate::{Changed, Step, Trail};
+use crate::{Changed, Step, Trail, Watches};
 use dt_bits::NoMemory;
 use dt_domain::Domain;
 use dt_terms::Problem;
@@ -34,7 +35,7 @@ impl<D: Domain> Model for Cells<D> {
 }
 
 impl<D: Domain> Cells<D> {
-    ghost use Rattle.std.specs.Prelude.{◌≡◌, ◌<◌, ◌≤◌, length, take, All, IsTrue, IfOk, IfSome, IfNone, MatchOption, OnOk, OnErr};
+    ghost use Rattle.std.specs.Prelude.{◌≡◌, ◌<◌, ◌≤◌, ◌↔◌, length, take, All, IsTrue, IfOk, IfSome, IfNone, MatchOption, OnOk, OnErr};
     ghost use Rattle.std.specs.Prelude.{length as count};
     ghost use Rattle.std.specs.List.{position_from};
     ghost use Rattle.dt_terms.specs.Terms.{bits_at};
@@ -43,6 +44,7 @@ impl<D: Domain> Cells<D> {
     ghost use Rattle.dt_box.specs.Changes.{IsChange};
     ghost use Rattle.dt_box.specs.Stillness.{HasNoEmpty, IsSettled, IsStillAt, tells, TellsNew};
     ghost use Rattle.dt_box.specs.Trails.{back, with_change, IsKept};
+    ghost use Rattle.dt_box.specs.Watching.{watches_of};
 
     /// The cells of what is known at first: each holds every number of its term's width, and the
     /// cell of a term that must be 1 holds 1 alone.
@@ -214,5 +216,29 @@ impl<D: Domain> Cells<D> {
         ensures { MatchOption result (IsSettled D.ops problem.now.terms self.now) (λ step. TellsNew D.ops problem.now.terms step self.now) }
     {
         first_step(problem.terms.as_slice(), &self.cells)
+    }
+
+    /// Whether the cells are settled, where they were when the trail had this many pairs. It tries
+    /// the cells that changed since then, and the steps that look at them, and takes no memory.
+    pub fn is_settled_since(
+        &self,
+        problem: &Problem,
+        watches: &Watches,
+        trail: &Trail<D>,
+        length: u64,
+    ) -> bool
+        requires cells { AreCells D.ops problem.now.terms self.now }
+        requires watches { watches.now ≡ watches_of problem.now.terms }
+        requires length { length ≤ count trail.now }
+        requires terms { All (λ change. change.0 < count self.now) trail.now }
+        requires settled { IsSettled D.ops problem.now.terms (back self.now trail.now length) }
+        ensures { IsTrue result ↔ IsSettled D.ops problem.now.terms self.now }
+    {
+        are_settled_after(
+            problem.terms.as_slice(),
+            watches,
+            &self.cells,
+            &trail.changes[length as usize..],
+        )
     }
 }

@@ -25,13 +25,16 @@
 mod cells;
 mod change;
 mod laws;
+mod near;
 mod propagation;
 mod root;
 mod step;
 mod sweep;
 mod trail;
+mod watches;
 
 pub use cells::Cells;
 pub use laws::{keeps_assignments, steps_are_local};
 pub use step::{Changed, Step};
 pub use trail::Trail;
+pub use watches::Watches;

@@ -12,7 +12,7 @@ use dt_domain::Domain;
 use dt_terms::Term;
 
 // The operand of a node at a place.
-fn operand_of(a: u32, b: u32, c: u32, place: u32) -> u32
+pub(crate) fn operand_of(a: u32, b: u32, c: u32, place: u32) -> u32
     ensures { result ≡ operand place a b c }
 {
     match place {
