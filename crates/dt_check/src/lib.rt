@@ -13,7 +13,7 @@ mod verdict;
 
 pub use check::check_log;
 pub use causing::{bit_cause, close_cause, step_cause, unvisited_cause};
-pub use settledness::are_settled;
+pub use settledness::is_settled_now;
 pub use laws::{decided_trials_solve, records_are_short, steps_keep_bits, verdicts_are_exact};
 pub use pending::Pending;
 pub use trial::{Trial, hold_tries, pick_of, write_picks, write_tried};

@@ -8,7 +8,7 @@ ghost use Rattle.dt_check.specs.Trials.{pick_at, picks, tried};
 ghost use Rattle.dt_check.specs.Tests.{is_try};
 
 use dt_bits::NoMemory;
-use dt_box::Cells;
+use dt_box::{Cells, Watches};
 use dt_domain::Domain;
 use dt_terms::Problem;
 use std::alloc::Global;
@@ -77,9 +77,11 @@ pub fn write_tried<D: Domain>(problem: &Problem, cells: &Cells<D>, tries: &[(u32
     }
 }
 
-/// Room to try an assignment: its numbers, and the values of the terms.
+/// What is needed to try an assignment of a problem: which nodes use each term, and room for the
+/// numbers and for the values of the terms.
 #[derive(Drop)]
 pub struct Trial {
+    watches: Watches,
     numbers: Vec<u128>,
     values: Vec<u128>,
 }
@@ -105,14 +107,22 @@ impl Trial {
     ghost use Rattle.dt_check.specs.Tests.{is_try};
     ghost use Rattle.dt_check.specs.Checking.{HasRoom};
 
-    /// Room for the problem's choices and terms.
+    /// Made for the problem.
     pub fn new(alloc: Global, problem: &Problem) -> Result<Trial, NoMemory>
         ensures { IfOk result (λ trial. HasRoom problem.now.terms trial) }
     {
         Ok(Trial {
+            watches: Watches::new(alloc, problem)?,
             numbers: zeros(alloc, problem.choice_count() as usize)?,
             values: zeros(alloc, problem.terms.len())?,
         })
+    }
+
+    /// Which nodes use each term.
+    pub fn watches(&self) -> &Watches
+        ensures { result.now ≡ self.now.watches }
+    {
+        &self.watches
     }
 
     /// Whether the assignment that these pairs and the picks of the cells give solves the problem.
