@@ -6,12 +6,17 @@
 makes `limits` (a model at every limit at once), `many_nodes`, `many_regs`, `many_rules` and
 `long_lines` (models of just 16 MiB that are read to their end; the check refuses all but the last), `bytes` (a model with words
 of one byte), `bytes_list` and `bytes_image` (an image of just 16 MiB for it, which meets the list),
-and `bytes_broken` (the same with its last word's address repeated).
+`bytes_broken` (the same with its last word's address repeated); `reads` (a model of 1024 nodes
+whose walk makes 64 reads), `reads_list` (a list at every limit at once), `reads_image` (which meets
+it), and `reads_long` (the list with comments, of 16 MiB); and the logs `log_steps`, `log_tries`
+and `log_splits` (64 MiB each: a long refutation, the most values of tries, and the most items of a
+tree) and `log_opens` (64 MiB of items of which the second is already wrong).
 """
 import sys
 
 FOLDER = sys.argv[1]
 MOST = 16 * 1024 * 1024
+MOST_LOG = 64 * 1024 * 1024
 
 
 def write(name, lines):
@@ -136,6 +141,152 @@ def image():
     print(len(lines), "words")
 
 
+def log(name, claim, items, last):
+    """Of items one behind the other, as many as there is room for, and the last ones."""
+    size = sum(len(line) + 1 for line in [claim, "end"] + last)
+    lines = []
+    while True:
+        more = items(len(lines))
+        size += sum(len(line) + 1 for line in more)
+        if size > MOST_LOG:
+            break
+        lines += more
+    write(name, [claim] + lines + last + ["end"])
+    print(name, len(lines) + len(last), "items")
+
+
+def logs():
+    def refuted(at):
+        steps = ["forward %d" % ((at * 7919 + i * 104729) % 100000) for i in range(5)]
+        steps += ["backward %d %d" % ((at * 15485863 + i * 32452843) % 100000, i % 3) for i in range(4)]
+        return steps + ["split %d %d" % (at % 1000, at % 64), "close %d" % (at * 49979687 % 100000)]
+
+    log("log_steps", "impossible", refuted, ["close 0"])
+    log("log_tries", "budget 0", lambda at: ["try 0 0x0"], ["open"])
+    pairs = (MOST_LOG - 40) // 15
+    log("log_splits", "budget %d" % pairs, lambda at: ["split 0 0", "open"], ["open"])
+    log("log_opens", "impossible", lambda at: ["open"], ["open"])
+
+
+READS, TESTS, RESULTS = 64, 942, 16
+CONTEXTS, ACCESSES, DEMANDS, LINKS, KEPT = 16, 64, 64, 256, 16
+TABLES, PAGES, FREE = 0x10000000, 0x80000000, 0x40000000
+
+
+def reads_model():
+    """The first word leads to the second, and so on, 64 in all; then as many tests as there is room for."""
+    lines = ["model 1", "word 64", "address 56", "reg root 56"]
+    lines += ["reg r%02d 64" % i for i in range(1, 32)]
+    lines += ["input number 56"] + ["input i%02d 64" % i for i in range(1, 16)]
+    lines += ["var w%02d 64" % i for i in range(READS)]
+    lines += ["legal context (eq (slice 11 0 root) 12:0x0)"] * 32
+    lines += ["legal access (ltu number 56:0x40)"] * 32
+    follow = ["read_%02d" % i for i in range(READS)] + ["test_%03d" % i for i in range(TESTS)] + ["result_00"]
+    cell = "(add root (concat 37:0x0 (concat (slice 15 0 number) 3:0x0)))"
+    for i in range(READS):
+        lines.append("node %s read w%02d %s 12 %s lost" % (follow[i], i, cell, follow[i + 1]))
+        cell = "(slice 55 0 w%02d)" % i
+    for i in range(TESTS):
+        at = READS + i
+        left = TESTS - i
+        if left < RESULTS:
+            lines.append("node %s if (eq (slice 3 0 number) 4:0x%x) result_%02d %s" % (follow[at], left, left, follow[at + 1]))
+        else:
+            lines.append("node %s if (eq number 56:0x%x) other %s" % (follow[at], 1000 + i, follow[at + 1]))
+    lines += ["node result_%02d done (slice 55 0 w63) 12" % i for i in range(RESULTS)]
+    lines += ["node lost fault 1", "node other fault 2", "end"]
+    assert sum(line.startswith("node") for line in lines) == 1024
+    write("reads", lines)
+
+
+def reads_cells(access):
+    """The cells that an access reads, each in a table of its own."""
+    context, first = access % CONTEXTS, TABLES + 0x1000 * (access % CONTEXTS)
+    assert context < CONTEXTS
+    rest = TABLES + 0x1000 * CONTEXTS + 0x1000 * (READS - 1) * access
+    return [first + 8 * access] + [rest + 0x1000 * i + 8 * (access % 8) for i in range(READS - 1)]
+
+
+def reads_words(access, page):
+    cells = reads_cells(access)
+    return list(zip(cells, cells[1:] + [page]))
+
+
+def reads_page(access):
+    return PAGES + 0x1000 * access
+
+
+def reads_demands(access):
+    """64 demands that the walk of this access meets, each kind and quantity among them."""
+    cells = reads_cells(access)
+    lines = ["ends done", "page 12", "avoid lost", "via result_%02d" % (access % RESULTS),
+             "bits pa 0xfff000 0x%x" % (reads_page(access) & 0xfff000), "range pa 0x%x 0x%x" % (PAGES, PAGES + 0xfffff),
+             "bits reg root 0xfff 0x0", "range reg root 0x%x 0x%x" % (TABLES, TABLES + 0xffff),
+             "bits in number 0x3f 0x%x" % access, "range in number 0 63"]
+    at = READS - 1
+    while len(lines) < DEMANDS:
+        word = reads_words(access, reads_page(access))[at][1]
+        lines += ["take read_%02d then" % at, "take test_%03d else" % (900 + at % 20), "via test_%03d" % (920 + at % 6),
+                  "avoid other", "bits word read_%02d 0xffffffffffffffff 0x%x" % (at, word),
+                  "range word read_%02d 0x%x 0x%x" % (at, word, word), "bits cell read_%02d 0xfff 0x%x" % (at, cells[at] & 0xfff),
+                  "range cell read_%02d 0x%x 0x%x" % (at, cells[at], cells[at] + 7)]
+        at -= 1
+    return lines[:DEMANDS]
+
+
+def reads_links():
+    """256 links that hold: shares of one context's first table, or of an access with itself, and walks apart."""
+    lines = []
+    for i in range(LINKS):
+        a, b = i % ACCESSES, (i + 1 + i // ACCESSES) % ACCESSES
+        kind = i % 5
+        if kind == 0:
+            lines.append("share table a%02d read_00 a%02d read_00" % (a, (a + CONTEXTS) % ACCESSES))
+        elif kind == 1:
+            lines.append("share cell a%02d read_63 a%02d read_63" % (a, a))
+        elif kind == 2:
+            lines.append("share page a%02d a%02d" % (a, a))
+        elif kind == 3:
+            lines.append("apart table a%02d read_63 a%02d read_63" % (a, b))
+        else:
+            lines.append("apart page a%02d a%02d" % (a, b))
+    return lines
+
+
+def reads_list():
+    lines = ["requests 2", "tables 0x%x 0x%x" % (TABLES, TABLES + 0x2000000)]
+    lines += ["keep 0x%x 0x%x" % (FREE + 0x10000 * i, FREE + 0x10000 * (i + 1)) for i in range(KEPT)]
+    lines += ["context c%02d" % i for i in range(CONTEXTS)]
+    for i in range(ACCESSES):
+        lines += ["access a%02d c%02d" % (i, i % CONTEXTS)] + reads_demands(i)
+    lines += reads_links()
+    write("reads_list", lines + ["end"])
+    size = sum(len(line) + 1 for line in lines) + 4
+    comment = "# " + "x" * 16381
+    more, rest = divmod(MOST - size, len(comment) + 1)
+    write("reads_long", lines[:2] + [comment] * more + ["#" + "x" * (rest - 2)] + lines[2:] + ["end"])
+
+
+def reads_image():
+    lines = ["image 1", "tables 0x%x 0x%x" % (TABLES, TABLES + 0x2000000)]
+    lines += ["context 0x%x" % (TABLES + 0x1000 * i) + " 0x0" * 31 for i in range(CONTEXTS)]
+    lines += ["access %d 0x%x" % (i % CONTEXTS, i) + " 0x0" * 15 for i in range(ACCESSES)]
+    words = {}
+    for i in range(ACCESSES):
+        words.update(reads_words(i, reads_page(i)))
+    assert len(words) == READS * ACCESSES
+    lines += ["word 0x%x 0x%x" % (a, words[a]) for a in sorted(words)]
+    write("reads_image", lines + ["end"])
+
+
+def reads():
+    reads_model()
+    reads_list()
+    reads_image()
+
+
 limits()
 models()
 image()
+logs()
+reads()

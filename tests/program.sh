@@ -80,9 +80,9 @@ row 'a shipped model' 3 'refused words\n' solve @sv39 empty 0 1
 row 'an empty name' 3 'refused words\n' solve '' empty 0 1
 
 sed 's/^end$/bits in x 0xff 0x2\nend/' result >bits
-row 'a demand that is not read yet' 5 'refused requests\n' solve t1 bits 0 1
+row 'a demand on an input that zeros break' 2 "$record" solve t1 bits 0 1
 row 'a list in place of a model' 4 'refused model line 1 form\n' solve empty empty 0 1
-row 'a model in place of a list' 5 'refused requests\n' solve t1 t1 0 1
+row 'a model in place of a list' 5 'refused requests line 1 form\n' solve t1 t1 0 1
 row 'the tutorial, solved' 0 "image 1\ntables 0x1000 0x3000\ncontext 0x0\naccess 0 0x0\nend\n" \
     solve two_level_model two_level_outside 0 1
 
@@ -136,15 +136,15 @@ row 'a folder in place of a list' 7 'read fault requests\n' solve t1 folder 0 1
 
 : >nothing
 row 'an empty model' 4 'refused model line 1 form\n' solve nothing empty 0 1
-row 'an empty list' 5 'refused requests\n' solve t1 nothing 0 1
+row 'an empty list' 5 'refused requests line 1 form\n' solve t1 nothing 0 1
 sed '$d' t1 >cut
 row 'a model without its end' 4 'refused model line 13 form\n' solve cut empty 0 1
 sed '$d' empty >cut
-row 'a list without its end' 5 'refused requests\n' solve t1 cut 0 1
+row 'a list without its end' 5 'refused requests line 3 form\n' solve t1 cut 0 1
 { cat t1; echo end; } >more
 row 'a line after the end of a model' 4 'refused model line 14 form\n' solve more empty 0 1
 { cat empty; echo end; } >more
-row 'a line after the end of a list' 5 'refused requests\n' solve t1 more 0 1
+row 'a line after the end of a list' 5 'refused requests line 4 form\n' solve t1 more 0 1
 { cat t1; echo; echo '   '; } >blank
 row 'blank lines after the end' 0 "image 1\n${tables}end\n" solve blank empty 0 1
 printf 'end' | cat cut - >unended
@@ -160,7 +160,7 @@ for byte in '\177' '\200' '\0'; do
     { head -n 4 t1; printf "$byte\n"; } >odd
     row "the byte $byte in a model" 4 'refused model line 5 byte\n' solve odd empty 0 1
     { cat empty; printf "$byte"; } >odd
-    row "the byte $byte in a list" 5 'refused requests\n' solve t1 odd 0 1
+    row "the byte $byte in a list" 5 'refused requests line 4 byte\n' solve t1 odd 0 1
 done
 
 # Images that came from anywhere.
@@ -204,7 +204,7 @@ sed 's/0x80000001/0x1001/' two_level_image >odd
 row 'the tutorial with a page on a table' 1 'breaks 3\n' replay two_level_model two_level_mapped odd
 row 'an absent image' 7 'read fault image\n' replay t1 result none
 row 'a folder in place of an image' 7 'read fault image\n' replay t1 result folder
-row 'the list is read before the image' 5 'refused requests\n' replay t1 t1 none
+row 'the list is read before the image' 5 'refused requests line 1 form\n' replay t1 t1 none
 row 'the model is read before the list' 4 'refused model line 1 form\n' replay empty none none
 row 'replay with too few words' 3 'refused words\n' replay t1 result
 row 'replay with too many words' 3 'refused words\n' replay t1 result image 1
@@ -216,7 +216,7 @@ row 'a line of 16385 bytes in a model' 4 'refused model line 4 long\n' solve wid
 with_line empty 2 16384 >wide
 row 'a line of 16384 bytes in a list' 0 "image 1\n${tables}end\n" solve t1 wide 0 1
 with_line empty 2 16385 >wide
-row 'a line of 16385 bytes in a list' 5 'refused requests\n' solve t1 wide 0 1
+row 'a line of 16385 bytes in a list' 5 'refused requests line 2 long\n' solve t1 wide 0 1
 
 most=0xffffffffffffffffffffffffffffffff
 sed "s/(eq .*/(eq 128:$most 128:$most)/" t1 >constant

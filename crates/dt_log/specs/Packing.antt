@@ -6,14 +6,14 @@ use Rattle.dt_log.specs.declared.lines.Packed.{Packed}
 use Rattle.dt_log.specs.declared.lines.Packed.TheVariants.{Forward, Backward, Try, Split, Close, Loose, Unvisited}
 
 -- the item that is kept so beside these values
-abbrev pub line_of : List ℕ → Packed → Line
-line_of values (Forward t) = line.Forward t
-line_of values (Backward p k) = line.Backward p k
-line_of values (Try c n) = line.Try c (slice_index values n)
-line_of values (Split t i) = line.Split t i
-line_of values (Close t) = line.Close t
-line_of values Loose = line.Loose
-line_of values Unvisited = line.Unvisited
+abbrev pub unpacked : List ℕ → Packed → Line
+unpacked values (Forward t) = line.Forward t
+unpacked values (Backward p k) = line.Backward p k
+unpacked values (Try c n) = line.Try c (slice_index values n)
+unpacked values (Split t i) = line.Split t i
+unpacked values (Close t) = line.Close t
+unpacked values Loose = line.Loose
+unpacked values Unvisited = line.Unvisited
 
 -- beside so many values
 abbrev pub IsPacked : ℕ → Packed → Type 0

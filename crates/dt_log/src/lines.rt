@@ -1,6 +1,6 @@
 ghost use Rattle.std.specs.Prelude.{◌≡◌, length, take, IfOk};
 ghost use Rattle.dt_log.specs.declared.line.Line.TheVariants.{Try};
-ghost use Rattle.dt_log.specs.Packing.{line_of, IsPacked};
+ghost use Rattle.dt_log.specs.Packing.{unpacked, IsPacked};
 
 use crate::line::Line;
 use dt_bits::NoMemory;
@@ -31,17 +31,17 @@ impl Model for Lines {
     ghost use Rattle.std.specs.Prelude.{List, map, length};
     ghost use Rattle.std.specs.List.{AllByRecursion};
     ghost use Rattle.dt_log.specs.declared.line.Line.{Line};
-    ghost use Rattle.dt_log.specs.Packing.{line_of, IsPacked};
+    ghost use Rattle.dt_log.specs.Packing.{unpacked, IsPacked};
 
     ghost Value = { List Line };
 
-    ghost view = { λ it. map (line_of it.values.items) it.items.items };
+    ghost view = { λ it. map (unpacked it.values.items) it.items.items };
 
     ghost invariant = { λ it. AllByRecursion (IsPacked (length it.values.items)) it.items.items };
 }
 
 fn pack_try(values: &mut Vec<u128>, choice: u32, value: u128) -> Result<Packed, NoMemory>
-    ensures packed { IfOk result (λ packed. IsPacked (length values.new.items) packed × (line_of values.new.items packed ≡ Try choice value)) }
+    ensures packed { IfOk result (λ packed. IsPacked (length values.new.items) packed × (unpacked values.new.items packed ≡ Try choice value)) }
     ensures kept { take (length values.old.items) values.new.items ≡ values.old.items }
 {
     let position = values.len();
@@ -57,7 +57,7 @@ fn pack_try(values: &mut Vec<u128>, choice: u32, value: u128) -> Result<Packed, 
 
 // The item as it is kept; the value of a Try is appended to the values.
 fn pack(values: &mut Vec<u128>, line: Line) -> Result<Packed, NoMemory>
-    ensures packed { IfOk result (λ packed. IsPacked (length values.new.items) packed × (line_of values.new.items packed ≡ line)) }
+    ensures packed { IfOk result (λ packed. IsPacked (length values.new.items) packed × (unpacked values.new.items packed ≡ line)) }
     ensures kept { take (length values.old.items) values.new.items ≡ values.old.items }
 {
     match line {

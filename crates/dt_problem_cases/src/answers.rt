@@ -9,6 +9,7 @@ fn push_answer(alloc: Global, call: &str, case: Case, out: &mut String) -> Resul
     match call {
         "problem" => problems::answered(alloc, case, out),
         "cells" => steps::answered(alloc, case, out),
+        "log" => logs::printed(alloc, case, out),
         "check known" => logs::answered(alloc, "known", case, out),
         "check range" => logs::answered(alloc, "range", case, out),
         "check pair" => logs::answered(alloc, "pair", case, out),

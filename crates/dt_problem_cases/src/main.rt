@@ -1,11 +1,12 @@
-//! Cases of problems of terms and of their cells, as texts: what the calls make of them, line by
-//! line, and what they must. The words of the program name files of cases; `dt_script` says how these
-//! are written.
+//! Cases of problems of terms, of their cells and of logs, as texts: what the calls make of them,
+//! line by line, and what they must. The words of the program name files of cases; `dt_script` says
+//! how these are written.
 //!
 //! | call | parts | answer |
 //! |---|---|---|
 //! | `problem` | `problem` | an answer for each line, see `problems` |
 //! | `cells` | `problem`, `steps` | an answer for each step from the root cells, see `steps` |
+//! | `log` | `log` | its printed text, or which line or item is wrong, and why |
 //! | `check known`, `check range`, `check pair` | `problem`, `log` | what the checker says over this domain, see `logs` |
 //!
 //! Proved: each call is made where its conditions hold, and the program ends. Only tested: all else,

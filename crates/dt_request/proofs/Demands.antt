@@ -1,9 +1,11 @@
 -- The demands of the last access, and one more of them.
-use Rattle.std.proofs.Common.{◌≡◌, ℕ, zero, suc, ◌-◌, ◌<◌, List, [], ◌∷◌, ◌++◌, length, get_or, set, sym, ap, ◌∙◌, arith}
+use Rattle.std.proofs.Common.{◌≡◌, ℕ, zero, suc, ◌-◌, ◌<◌, List, [], ◌∷◌, ◌++◌, length, get_or, set, refl, sym, ap, ◌∙◌, arith}
 use Rattle.std.specs.Prelude.{map, slice_get, Some}
+use Rattle.dt_lex.specs.declared.name.Name.{Name}
 use Rattle.dt_lex.specs.Reading.{last_of}
 use Rattle.dt_request.specs.declared.list.Demand.{Demand}
 use Rattle.dt_request.specs.declared.list.AccessWish.{AccessWish}
+use Rattle.dt_request.specs.Lists.{access_names}
 use Rattle.dt_request.specs.Entry.{last_demands}
 use Rattle.dt_request.specs.Draft.{with_demand}
 
@@ -33,3 +35,15 @@ with_demand_set [] i m demands demand some at is e = absurd (omega arith)
 with_demand_set (a ∷ wishes) i m demands demand some at is e =
     ap (λ (ds : List Demand). set (a ∷ wishes) i (record { name = m.name; context = m.context; demands = ds })) e
     ∙ set_last a wishes i m demand (omega arith) is
+
+-- ---- what stays
+
+pub length_with : (wishes : List AccessWish) (x : Demand) → length (with_demand wishes x) ≡ length wishes
+length_with [] x = refl
+length_with (a ∷ []) x = refl
+length_with (a ∷ b ∷ wishes) x = ap (λ (n : ℕ). suc n) (length_with (b ∷ wishes) x)
+
+pub names_with : (wishes : List AccessWish) (x : Demand) → access_names (with_demand wishes x) ≡ access_names wishes
+names_with [] x = refl
+names_with (a ∷ []) x = refl
+names_with (a ∷ b ∷ wishes) x = ap (λ (ns : List Name). a.name ∷ ns) (names_with (b ∷ wishes) x)

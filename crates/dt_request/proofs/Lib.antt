@@ -2,3 +2,10 @@ pub mod Names
 pub mod Demands
 pub mod Entries
 pub mod Choosing
+pub mod Steps
+pub mod Places
+pub mod Printed
+pub mod SpelledRows
+pub mod SpelledLists
+pub mod ReadLists
+pub mod PrintedLists

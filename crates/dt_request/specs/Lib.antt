@@ -7,3 +7,5 @@ pub mod Entry
 pub mod Draft
 pub mod Read
 pub mod Laws
+pub mod Spelling
+pub mod Print

@@ -1,6 +1,10 @@
 -- How much a request list holds at most; codes have the limit of a model.
 use Rattle.std.specs.Prelude.{ℕ}
 
+-- ranges that nothing may touch
+abbrev pub most_kept : ℕ
+most_kept = 16
+
 abbrev pub most_contexts : ℕ
 most_contexts = 16
 

@@ -1,5 +1,5 @@
 -- Request lists of a model: each bound, count, name, position, width and code in them is as the text of a list asks.
-use Rattle.std.specs.Prelude.{◌≡◌, ◌≢◌, ℕ, ◌^◌, ◌<◌, ◌≤◌, Bool, true, false, if◌then◌else◌, List, [], length, map, Option, Some, None, slice_get, IsTrue, IsSomeAnd, All, AllPairs}
+use Rattle.std.specs.Prelude.{◌≢◌, ℕ, ◌^◌, ◌<◌, ◌≤◌, Bool, true, false, if◌then◌else◌, List, [], length, map, Option, Some, None, slice_get, IsTrue, IsSomeAnd, All, AllPairs}
 use Rattle.dt_lex.specs.declared.name.Name.{Name}
 use Rattle.dt_lex.specs.Names.{IsName}
 use Rattle.dt_model.specs.Limits.{most_code}
@@ -15,8 +15,9 @@ use Rattle.dt_request.specs.declared.list.Side.{Side}
 use Rattle.dt_request.specs.declared.list.Link.{Link}
 use Rattle.dt_request.specs.declared.list.Link.TheVariants.{ShareTable, ShareCell, SharePage, ApartTable, ApartPage}
 use Rattle.dt_request.specs.declared.list.AccessWish.{AccessWish}
+use Rattle.dt_request.specs.declared.list.KeptRange.{KeptRange}
 use Rattle.dt_request.specs.declared.list.Requests.{Requests}
-use Rattle.dt_request.specs.Limits.{most_contexts, most_accesses, most_demands, most_links}
+use Rattle.dt_request.specs.Limits.{most_kept, most_contexts, most_accesses, most_demands, most_links}
 
 -- ---- names
 
@@ -94,11 +95,20 @@ IsLink d accesses (SharePage a b) = (a < accesses) × (b < accesses)
 IsLink d accesses (ApartTable a b) = IsSide d accesses a × IsSide d accesses b
 IsLink d accesses (ApartPage a b) = (a < accesses) × (b < accesses)
 
+-- ---- kept ranges
+
+-- the ends are in order and within the addresses
+pub record IsKept (d : ModelData) (k : KeptRange) : Type 0 where
+  pub rising : k.lo ≤ k.hi
+  pub within : k.hi ≤ 2 ^ d.address
+
 -- ---- lists
 
 -- the list is of the model
 pub record IsList (d : ModelData) (r : Requests) : Type 0 where
   pub bounds : AreBounds d r.lo r.hi
+  pub few_kept : length r.kept ≤ most_kept
+  pub kept : All (IsKept d) r.kept
   pub few_contexts : length r.contexts ≤ most_contexts
   pub contexts : AreNames r.contexts
   pub few_accesses : length r.accesses ≤ most_accesses
@@ -106,16 +116,3 @@ pub record IsList (d : ModelData) (r : Requests) : Type 0 where
   pub accesses : All (IsWish d (length r.contexts)) r.accesses
   pub few_links : length r.links ≤ most_links
   pub links : All (IsLink d (length r.accesses)) r.links
-
--- ---- lists that ask for ends alone
-
--- a demand on the end of the walk
-abbrev pub IsOnEnd : Demand → Type 0
-IsOnEnd EndDone = Unit {0}
-IsOnEnd (EndFault code) = Unit {0}
-IsOnEnd _ = ⊥
-
--- each demand is on the end of its walk, and there is no link
-pub record AsksEndsAlone (r : Requests) : Type 0 where
-  pub demands : All (λ (a : AccessWish). All IsOnEnd a.demands) r.accesses
-  pub links : r.links ≡ []

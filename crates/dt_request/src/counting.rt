@@ -5,14 +5,9 @@ ghost use Rattle.dt_model.specs.Faults.{is_read};
 ghost use Rattle.dt_request.specs.Lists.{IsList};
 ghost use Rattle.dt_request.specs.Choices.{read_nodes, widths_of, choice_count, choice_bits};
 
+use crate::known::is_read;
 use crate::list::Requests;
-use dt_model::{Accepted, Act, Named, Node};
-
-fn is_read(act: &Act) -> bool
-    ensures { result ≡ is_read (act_of act.now) }
-{
-    matches!(act, Act::Read { .. })
-}
+use dt_model::{Accepted, Named, Node};
 
 #[tactic(auto, using(std::proofs::lemmas::List::Sums::count_by_more_yes, std::proofs::lemmas::List::Sums::count_by_more_no))]
 fn reads_among(nodes: &[Node]) -> u64

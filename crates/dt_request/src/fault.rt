@@ -17,13 +17,15 @@ pub enum RequestFault {
     Lex(LexFault),
     /// The line doesn't have the shape that is given for its place.
     Form(u32),
-    /// A 17th context, a 65th access, or a 65th demand of one access.
+    /// A 17th kept range or context, a 65th access, a 65th demand of one access, or a 257th link.
     TooMany(u32),
-    /// The context of the access isn't declared.
+    /// A name isn't declared as what its place asks for: a context, an access, a register, an input,
+    /// a node, an if or a read, or a read.
     Unknown(u32),
     /// An earlier context, or an earlier access, has this name.
     Twice(u32),
-    /// The table bounds don't fit the model, or a code is above 65535.
+    /// The table bounds or a kept range don't fit the model, a number doesn't fit its quantity, a
+    /// code is above 65535, or a page exponent is above the address width.
     OutOfRange(u32),
 }
 
@@ -92,11 +94,12 @@ impl fmt::Display for RequestFault {
             RequestFault::Memory => f.write_str("memory ran out"),
             RequestFault::Lex(fault) => write!(f, "{fault}"),
             RequestFault::Form(line) => write!(f, "line {line} is no line of a list here"),
-            RequestFault::TooMany(line) => {
-                write!(f, "line {line} has one context, access or demand too many")
-            }
+            RequestFault::TooMany(line) => { write!(f, "line {line} has one of its kind too many") }
             RequestFault::Unknown(line) => {
-                write!(f, "line {line} names a context that isn't declared")
+                write!(
+                    f,
+                    "line {line} has a name that isn't declared as it is used"
+                )
             }
             RequestFault::Twice(line) => write!(f, "line {line} has a name that is taken"),
             RequestFault::OutOfRange(line) => {

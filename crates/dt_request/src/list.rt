@@ -80,11 +80,20 @@ pub enum Link {
     ApartPage(u32, u32),
 }
 
+/// Physical addresses from `lo` up to `hi`, which is not among them, that no table and no page may
+/// touch. A range whose ends are equal has none.
+#[derive(Clone, Copy, Debug, PartialEq, Eq)]
+pub struct KeptRange {
+    pub lo: u128,
+    pub hi: u128,
+}
+
 /// A request list. Tables lie from the byte `lo` up to the byte `hi`, which is not theirs.
 #[derive(Debug, Drop)]
 pub struct Requests {
     pub lo: u128,
     pub hi: u128,
+    pub kept: Seq<KeptRange>,
     pub contexts: Seq<Name>,
     pub accesses: Seq<AccessWish>,
     pub links: Seq<Link>,

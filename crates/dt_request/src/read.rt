@@ -1,13 +1,16 @@
-ghost use Rattle.std.specs.Prelude.{◌^◌, ◌-◌, ◌<◌, IfOk, length};
+ghost use Rattle.std.specs.Prelude.{◌^◌, ◌-◌, ◌<◌, IfOk, Ok, length};
 ghost use Rattle.dt_lex.specs.Reading.{Gives};
 ghost use Rattle.dt_model.specs.Accepted.{accepted_data};
-ghost use Rattle.dt_request.specs.Lists.{IsList, AsksEndsAlone};
+ghost use Rattle.dt_request.specs.declared.list.Requests.{Requests};
+ghost use Rattle.dt_request.specs.Lists.{IsList};
 ghost use Rattle.dt_request.specs.Fault.{is_memory};
 ghost use Rattle.dt_request.specs.Read.{reading};
+ghost use Rattle.dt_request.specs.Spelling.{IsListText};
 
 use crate::draft::Draft;
 use crate::entry::{SECTIONS, meaning};
 use crate::fault::{Cause, RequestFault, at_line};
+use crate::known::Known;
 use crate::line::read_line;
 use crate::list::Requests;
 use dt_lex::{LexFault, Reader, read_text};
@@ -15,10 +18,10 @@ use dt_model::Accepted;
 use std::alloc::Global;
 
 /// Reads the request lists of a model.
-#[derive(Clone, Copy)]
+#[derive(Drop)]
 struct ListReader<'a> {
     alloc: Global,
-    model: &'a Accepted,
+    known: Known<'a>,
 }
 
 impl<'a> Reader for ListReader<'a> {
@@ -28,8 +31,9 @@ impl<'a> Reader for ListReader<'a> {
     ghost use Rattle.dt_request.specs.declared.entry.Entry.{Entry};
     ghost use Rattle.dt_request.specs.declared.fault.Cause.{Cause};
     ghost use Rattle.dt_request.specs.Fault.{is_memory};
+    ghost use Rattle.dt_request.specs.Lists.{IsList};
     ghost use Rattle.dt_request.specs.Entry.{Declared};
-    ghost use Rattle.dt_request.specs.Draft.{declared_by, added, IsEndList, IsDraft};
+    ghost use Rattle.dt_request.specs.Draft.{declared_by, added, IsDraft};
     ghost use Rattle.dt_request.specs.Read.{grammar, finished};
     ghost use Rattle.dt_request.specs.Laws.{adds_up};
 
@@ -47,7 +51,7 @@ impl<'a> Reader for ListReader<'a> {
 
     ghost Meaning = { Requests };
 
-    ghost grammar = { λ r. grammar (accepted_data r.model.now) };
+    ghost grammar = { λ r. grammar (accepted_data r.known.model.now) };
 
     ghost added = { added };
 
@@ -59,9 +63,9 @@ impl<'a> Reader for ListReader<'a> {
 
     ghost is_memory = { is_memory };
 
-    ghost valid = { λ r n d. IsDraft (accepted_data r.model.now) (declared_by d) };
+    ghost valid = { λ r n d. IsDraft (accepted_data r.known.model.now) d };
 
-    ghost sound = { λ r list. IsEndList (accepted_data r.model.now) list };
+    ghost sound = { λ r list. IsList (accepted_data r.known.model.now) list };
 
     ghost adds_up = { λ r. adds_up };
 
@@ -83,7 +87,7 @@ impl<'a> Reader for ListReader<'a> {
         word: &[u8],
         rest: &[u8],
     ) -> Result<(), RequestFault> {
-        match meaning(self.model, draft, read_line(word, rest)) {
+        match meaning(&self.known, draft, read_line(word, rest)) {
             Err(cause) => Err(at_line(number, cause)),
             Ok(entry) => {
                 draft.add(self.alloc, entry)?;
@@ -96,12 +100,13 @@ impl<'a> Reader for ListReader<'a> {
         if draft.place != SECTIONS.len() {
             return Err(at_line(number, Cause::Form));
         }
-        Ok(draft.into_list(self.alloc))
+        Ok(draft.into_list())
     }
 }
 
-/// The list of the model that the text spells. Its demands are on the ends of walks, and it has no
-/// links. It takes memory for the list alone.
+/// The list of the model that the text spells, read in one pass: the time is linear in the text,
+/// and names are looked up by their hash. Memory holds the list, and where the names of the list
+/// and of the model stand.
 ///
 /// # Errors
 ///
@@ -116,7 +121,10 @@ pub fn read_requests(
     requires { length bytes.now < 2 ^ 32 - 1 }
     ensures read { Gives is_memory (λ r. r) result (reading (accepted_data model.now) bytes.now) }
     ensures list { IfOk result (IsList (accepted_data model.now)) }
-    ensures ends { IfOk result AsksEndsAlone }
+    // A text whose lines spell a list, however they are written, is read as that list.
+    ensures spelled { (list : Requests) → IsListText (accepted_data model.now) bytes.now list
+        → Gives is_memory (λ r. r) result (Ok list) }
 {
-    read_text(&ListReader { alloc, model }, bytes)
+    let known = Known::new(alloc, model)?;
+    read_text(&ListReader { alloc, known }, bytes)
 }

@@ -8,7 +8,7 @@ use Rattle.dt_walk.specs.Walks.{RunData, walk_of}
 use Rattle.dt_request.specs.declared.list.Requests.{Requests}
 use Rattle.dt_image.specs.declared.image.Image.{Image}
 use Rattle.dt_image.specs.declared.image.ImageAccess.{ImageAccess}
-use Rattle.dt_satisfy.specs.Blocks.{are_apart}
+use Rattle.dt_satisfy.specs.Blocks.{are_apart, is_kept}
 use Rattle.dt_satisfy.specs.Demands.{Made, meets}
 use Rattle.dt_satisfy.specs.Links.{pages_of, tables_of, link_holds}
 
@@ -54,5 +54,9 @@ link_claims d r i = map (link_holds (steps d) (runs_of d i)) r.links
 abbrev pub apart_claim : ModelData → Image → Bool
 apart_claim d i = are_apart (pages_of (runs_of d i)) (tables_of (steps d) (runs_of d i))
 
+-- for each kept range: no page and no table of any run touches it
+abbrev pub kept_claims : ModelData → Requests → Image → List Bool
+kept_claims d r i = map (is_kept (pages_of (runs_of d i)) (tables_of (steps d) (runs_of d i))) r.kept
+
 abbrev pub claims : ModelData → Requests → Image → List Bool
-claims d r i = context_claims d i ++ access_claims d i ++ demand_claims d r i ++ link_claims d r i ++ apart_claim d i ∷ []
+claims d r i = context_claims d i ++ access_claims d i ++ demand_claims d r i ++ link_claims d r i ++ apart_claim d i ∷ kept_claims d r i

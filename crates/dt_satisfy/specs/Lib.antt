@@ -1,4 +1,5 @@
 pub mod Blocks
+pub mod Bytes
 pub mod Demands
 pub mod Views
 pub mod Links

@@ -63,22 +63,18 @@ fn is_page(asked: u32, end: End) -> bool
     }
 }
 
+// The word of the read, where it is made.
 fn word_of(made: Option<ReadMade>) -> Option<u128>
     ensures { result ≡ option_map (λ m. m.word) made }
 {
-    match made {
-        None => None,
-        Some(made) => Some(made.word),
-    }
+    made.map(|made| made.word)
 }
 
+// The address of the read, where it is made.
 fn cell_of(made: Option<ReadMade>) -> Option<u128>
     ensures { result ≡ option_map (λ m. m.cell) made }
 {
-    match made {
-        None => None,
-        Some(made) => Some(made.cell),
-    }
+    made.map(|made| made.cell)
 }
 
 // The number that the quantity has, where the read is made or the end is a result.
@@ -98,20 +94,14 @@ fn value_of(made: &MadeAccess, of: Quantity) -> Option<u128>
 fn is_masked(number: Option<u128>, mask: u128, value: u128) -> bool
     ensures { result ≡ has number (is_masked mask value) }
 {
-    match number {
-        None => false,
-        Some(n) => n & mask == value,
-    }
+    number.is_some_and(|n| n & mask == value)
 }
 
 // Whether there is a number from lo to hi.
 fn is_within(number: Option<u128>, lo: u128, hi: u128) -> bool
     ensures { result ≡ has number (is_within lo hi) }
 {
-    match number {
-        None => false,
-        Some(n) => lo <= n && n <= hi,
-    }
+    number.is_some_and(|n| lo <= n && n <= hi)
 }
 
 // Whether the side is this node's `then`, or its other side.

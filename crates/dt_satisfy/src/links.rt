@@ -90,40 +90,32 @@ pub fn push_tables(nodes: &[Node], runs: &[Run], tables: &mut Vec<Block>) -> Res
 fn read_in(runs: &[Run], side: Side) -> Option<ReadMade>
     ensures { result ≡ read_in (map run_data runs.now) side }
 {
-    match runs.get(side.access as usize) {
-        None => None,
-        Some(run) => read_at(run.reads.as_slice(), side.node),
-    }
+    let run = runs.get(side.access as usize)?;
+    read_at(run.reads.as_slice(), side.node)
 }
 
 // The table of the read that the access makes at the node.
 fn table_in(nodes: &[Node], runs: &[Run], side: Side) -> Option<Block>
     ensures { result ≡ table_in (steps_of nodes.now) (map run_data runs.now) side }
 {
-    match read_in(runs, side) {
-        None => None,
-        Some(made) => Some(table_of(nodes, made)),
-    }
+    let made = read_in(runs, side)?;
+    Some(table_of(nodes, made))
 }
 
 // The address of the read that the access makes at the node.
 fn cell_in(runs: &[Run], side: Side) -> Option<u128>
     ensures { result ≡ cell_in (map run_data runs.now) side }
 {
-    match read_in(runs, side) {
-        None => None,
-        Some(made) => Some(made.cell),
-    }
+    let made = read_in(runs, side)?;
+    Some(made.cell)
 }
 
 // The page that the access ends in.
 fn page_in(runs: &[Run], access: u32) -> Option<Block>
     ensures { result ≡ page_in (map run_data runs.now) access }
 {
-    match runs.get(access as usize) {
-        None => None,
-        Some(run) => page_of(run.end),
-    }
+    let run = runs.get(access as usize)?;
+    page_of(run.end)
 }
 
 // Whether both blocks are there, and are one.

@@ -7,7 +7,11 @@ use Rattle.dt_modeltext.specs.declared.fault.ModelFault.{ModelFault}
 use Rattle.dt_modeltext.specs.declared.fault.ModelFault.TheVariants as model
 use Rattle.dt_modeltext.specs.Read.{IsModelText, RefusesText}
 use Rattle.dt_modeltext.specs.Fault.{is_memory}
+use Rattle.dt_request.specs.declared.fault.RequestFault.{RequestFault}
+use Rattle.dt_request.specs.declared.fault.RequestFault.TheVariants as list
 use Rattle.dt_request.specs.declared.list.Requests.{Requests}
+use Rattle.dt_request.specs.Fault.{is_memory as list_memory, line_of as list_line, word_of as list_word}
+use Rattle.dt_request.specs.Read.{reading as list_in}
 use Rattle.dt_image.specs.declared.fault.ImageFault.{ImageFault}
 use Rattle.dt_image.specs.declared.fault.ImageFault.TheVariants as image
 use Rattle.dt_image.specs.declared.image.Image.{Image}
@@ -23,7 +27,7 @@ use Rattle.dt_image.specs.Fault.{line_of as image_line, word_of as image_word}
 use Rattle.dt_top.specs.Lines.{breaks_line, bad_line}
 use Rattle.dt_top.specs.Replies.{bytes_of, IsWant, IsRefusedLine}
 use Rattle.dt_top.specs.Seen.{seen, StaysShelf, Took, TookBoth}
-use Rattle.dt_top.specs.Stages.{IsRefusedModel, OnModel, IsRequests, IsNoRequests, OnRequests, IsMatching, OnImage, OnModelAndList}
+use Rattle.dt_top.specs.Stages.{IsRefusedModel, OnModel, IsRequests, IsRefusedList, OnRequests, IsMatching, OnImage, OnModelAndList}
 use Rattle.dt_top.specs.Table.{Ends, in_call, no_reads, Replies}
 use Rattle.dt_top.specs.commands.Replay.{Judging}
 use Rattle.dt_top.specs.declared.file.File.{File}
@@ -55,11 +59,21 @@ replies_model bytes fault reply r none (inr h) =
     ([], inl (bad_line (codes "model") h.0 (model_word fault), refused_model bytes fault h.0 r none h.1, refl), refl)
 
 -- a list's text that is refused
-pub replies_list : (d : ModelData) (bytes : List ℕ) (reply : Reply) → IsNoRequests d bytes → reply.status ≡ status.RequestsRefused → bytes_of reply.text ≡ codes "refused requests\n"
-    → Replies (OnRequests d bytes (λ list. Never)) reply.status (bytes_of reply.text)
-replies_list d bytes reply none s t =
-    ends_as no_reads (OnRequests d bytes (λ list. Never)) status.RequestsRefused reply.status (codes "refused requests\n") (bytes_of reply.text) s t
-    ([], inl (none, refl), refl)
+refused_list : (d : ModelData) (bytes : List ℕ) (fault : RequestFault) (n : ℕ) → OnFalse (list_memory fault) (list_in d bytes ≡ Err fault) → list_line fault ≡ Some n → IsRefusedList d bytes (bad_line (codes "requests") n (list_word fault))
+refused_list d bytes list.Memory n r e = absurd cc
+refused_list d bytes (list.Lex l) n r e = record { fault = list.Lex l; number = n; refused = r; place = e; line = refl }
+refused_list d bytes (list.Form m) n r e = record { fault = list.Form m; number = n; refused = r; place = e; line = refl }
+refused_list d bytes (list.TooMany m) n r e = record { fault = list.TooMany m; number = n; refused = r; place = e; line = refl }
+refused_list d bytes (list.Unknown m) n r e = record { fault = list.Unknown m; number = n; refused = r; place = e; line = refl }
+refused_list d bytes (list.Twice m) n r e = record { fault = list.Twice m; number = n; refused = r; place = e; line = refl }
+refused_list d bytes (list.OutOfRange m) n r e = record { fault = list.OutOfRange m; number = n; refused = r; place = e; line = refl }
+
+pub replies_list : (d : ModelData) (bytes : List ℕ) (fault : RequestFault) (reply : Reply) → OnFalse (list_memory fault) (list_in d bytes ≡ Err fault)
+    → IsRefusedLine file.Requests (list_line fault) (list_word fault) reply → Replies (OnRequests d bytes (λ list. Never)) reply.status (bytes_of reply.text)
+replies_list d bytes fault reply r (inl w) = replies_want (OnRequests d bytes (λ list. Never)) reply w
+replies_list d bytes fault reply r (inr h) =
+    ends_as no_reads (OnRequests d bytes (λ list. Never)) status.RequestsRefused reply.status (bad_line (codes "requests") h.0 (list_word fault)) (bytes_of reply.text) h.2 h.3
+    ([], inl (bad_line (codes "requests") h.0 (list_word fault), refused_list d bytes fault h.0 r h.1, refl), refl)
 
 image_known : (R : Type 0) (fault : ImageFault) (n : ℕ) → image_line fault ≡ Some n → OnFalse (image_memory fault) R → R
 image_known R image.Memory n e h = absurd cc

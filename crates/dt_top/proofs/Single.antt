@@ -5,7 +5,10 @@ use Rattle.std.proofs.lemmas.List.Quantifiers.{position-Some}
 use Rattle.dt_edge.specs.Told.{IsLong}
 use Rattle.dt_model.specs.ModelData.{ModelData}
 use Rattle.dt_modeltext.specs.Read.{IsModelText}
+use Rattle.dt_request.specs.declared.fault.RequestFault.{RequestFault}
 use Rattle.dt_request.specs.declared.list.Requests.{Requests}
+use Rattle.dt_request.specs.Fault.{line_of as list_line, word_of as list_word}
+use Rattle.dt_request.specs.Read.{reading as list_in}
 use Rattle.dt_image.specs.declared.fault.ImageFault.{ImageFault}
 use Rattle.dt_image.specs.declared.image.Image.{Image}
 use Rattle.dt_image.specs.Read.{reading}
@@ -17,7 +20,7 @@ use Rattle.dt_image.specs.Fault.{line_of as image_line, word_of as image_word}
 use Rattle.dt_top.specs.Files.{limit_of}
 use Rattle.dt_top.specs.Lines.{bad_line, breaks_line}
 use Rattle.dt_top.specs.Seen.{HasAll}
-use Rattle.dt_top.specs.Stages.{IsRefusedModel, OnModel, IsRequests, OnRequests, IsMatching, IsRefusedImage, OnImage, OnModelAndList}
+use Rattle.dt_top.specs.Stages.{IsRefusedModel, OnModel, IsRequests, IsRefusedList, OnRequests, IsMatching, IsRefusedImage, OnImage, OnModelAndList}
 use Rattle.dt_top.specs.Table.{Files}
 use Rattle.dt_top.specs.commands.Jobs.{Job, solve, replay, Doing}
 use Rattle.dt_top.specs.commands.Replay.{Judging, JudgingBytes}
@@ -93,11 +96,23 @@ single_model files bytes next one given other out end hg ho sg so (inr p) (inr q
 one_list : (d : ModelData) (bytes : List ℕ) (k l : Requests) → IsRequests d bytes k → IsRequests d bytes l → k ≡ l
 one_list d bytes k l p q = let e : Ok k ≡ Ok l = sym p ∙ q in cc
 
+no_list : (d : ModelData) (bytes : List ℕ) (e : RequestFault) (l : Requests) → list_in d bytes ≡ Err e → IsRequests d bytes l → ⊥
+no_list d bytes e l p q = let k : Err e ≡ Ok l = sym p ∙ q in cc
+
+list_fault : (d : ModelData) (bytes : List ℕ) (e f : RequestFault) → list_in d bytes ≡ Err e → list_in d bytes ≡ Err f → e ≡ f
+list_fault d bytes e f p q = let k = sym p ∙ q in cc
+
+refused_list_one : (d : ModelData) (bytes text line : List ℕ) → IsRefusedList d bytes text → IsRefusedList d bytes line → text ≡ line
+refused_list_one d bytes text line a b =
+    let same = list_fault d bytes a.fault b.fault a.refused b.refused in
+    let n = number_is a.number b.number (sym a.place ∙ ap list_line same ∙ b.place) in
+    a.line ∙ ap (λ k. bad_line (codes "requests") k (list_word a.fault)) n ∙ ap (λ f. bad_line (codes "requests") b.number (list_word f)) same ∙ sym b.line
+
 single_list : (files : Files) (d : ModelData) (bytes : List ℕ) (next : Requests → List FileRead → Outcome → Type 0) → ((list : Requests) → IsSingle files (next list)) → IsSingle files (OnRequests d bytes next)
 single_list files d bytes next one given other out end hg ho sg so (inl p) (inl q) =
-    single_answered files status.RequestsRefused (codes "refused requests\n") given other out end hg ho sg so p.1 q.1
-single_list files d bytes next one given other out end hg ho sg so (inl p) (inr q) = absurd (p.0 q.0 q.1)
-single_list files d bytes next one given other out end hg ho sg so (inr p) (inl q) = absurd (q.0 p.0 p.1)
+    single_answered files status.RequestsRefused p.0 given other out end hg ho sg so p.2 (subst (λ t. Answered status.RequestsRefused t other end) (refused_list_one d bytes q.0 p.0 q.1 p.1) q.2)
+single_list files d bytes next one given other out end hg ho sg so (inl p) (inr q) = let r = p.1 in absurd (no_list d bytes r.fault q.0 r.refused q.1)
+single_list files d bytes next one given other out end hg ho sg so (inr p) (inl q) = let r = q.1 in absurd (no_list d bytes r.fault p.0 r.refused p.1)
 single_list files d bytes next one given other out end hg ho sg so (inr p) (inr q) =
     one p.0 given other out end hg ho sg so p.2 (subst (λ l. next l other end) (one_list d bytes q.0 p.0 q.1 p.1) q.2)
 

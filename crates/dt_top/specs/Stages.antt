@@ -3,6 +3,8 @@ use Rattle.std.specs.Prelude.{ℕ, ◌≡◌, ◌⊎◌, List, Some, Ok, Err, co
 use Rattle.dt_model.specs.ModelData.{ModelData}
 use Rattle.dt_modeltext.specs.declared.fault.ModelFault.{ModelFault}
 use Rattle.dt_modeltext.specs.Read.{IsModelText, RefusesText}
+use Rattle.dt_request.specs.declared.fault.RequestFault.{RequestFault}
+use Rattle.dt_request.specs.Fault.{line_of as list_line, word_of as list_word}
 use Rattle.dt_request.specs.Read.{reading as list_in}
 use Rattle.dt_request.specs.declared.list.Requests.{Requests}
 use Rattle.dt_image.specs.declared.fault.ImageFault.{ImageFault}
@@ -42,13 +44,17 @@ OnModel bytes next files outcome =
 abbrev pub IsRequests : ModelData → List ℕ → Requests → Type 0
 IsRequests d bytes list = list_in d bytes ≡ Ok list
 
--- the bytes are no text of a list for the model
-abbrev pub IsNoRequests : ModelData → List ℕ → Type 0
-IsNoRequests d bytes = (list : Requests) → IsRequests d bytes list → ⊥
+-- they have a first bad line, and this is the line that says so
+pub record IsRefusedList (d : ModelData) (bytes text : List ℕ) : Type 0 where
+  pub fault : RequestFault
+  pub number : ℕ
+  pub refused : list_in d bytes ≡ Err fault
+  pub place : list_line fault ≡ Some number
+  pub line : text ≡ bad_line (codes "requests") number (list_word fault)
 
 abbrev pub OnRequests : ModelData → List ℕ → (Requests → List FileRead → Outcome → Type 0) → List FileRead → Outcome → Type 0
 OnRequests d bytes next files outcome =
-    (IsNoRequests d bytes × Answered status.RequestsRefused (codes "refused requests\n") files outcome)
+    ((text : List ℕ) × IsRefusedList d bytes text × Answered status.RequestsRefused text files outcome)
     ⊎ ((list : Requests) × IsRequests d bytes list × next list files outcome)
 
 -- ---- an image that matches a list

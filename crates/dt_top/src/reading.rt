@@ -1,7 +1,7 @@
 // The files that a command reads, one after another.
 ghost use Rattle.std.specs.Prelude.{◌≡◌, ◌≤◌, ◌∷◌, [], ℕ, List, length, IfOk, IfErr};
 ghost use Rattle.dt_model.specs.Accepted.{accepted_data};
-ghost use Rattle.dt_request.specs.Lists.{IsList, AsksEndsAlone};
+ghost use Rattle.dt_request.specs.Lists.{IsList};
 ghost use Rattle.dt_modeltext.specs.Read.{IsModelText};
 ghost use Rattle.dt_top.specs.Course.{Never, OnFile};
 ghost use Rattle.dt_top.specs.Replies.{bytes_of};
@@ -67,7 +67,6 @@ pub fn list_file<S: Shelf>(
         × Took (seen S.told S.faults S.taken S.asked shelf.old shelf.new) File.Requests name.now bytes
         × IsRequests (accepted_data model.now) bytes list) }
     ensures list { IfOk result (IsList (accepted_data model.now)) }
-    ensures ends { IfOk result AsksEndsAlone }
     ensures refused { IfErr result (λ reply.
         Ends (in_call (seen S.told S.faults S.taken S.asked shelf.old shelf.new) (name.now ∷ []))
         (OnFile File.Requests name.now
@@ -97,7 +96,6 @@ pub fn model_and_list<S: Shelf>(
         TookBoth (seen S.told S.faults S.taken S.asked shelf.old shelf.new) model.now requests.now
         (accepted_data question.model) question.list) }
     ensures list { IfOk result (λ question. IsList (accepted_data question.model) question.list) }
-    ensures ends { IfOk result (λ question. AsksEndsAlone question.list) }
     ensures refused { IfErr result (λ reply.
         Ends (in_call (seen S.told S.faults S.taken S.asked shelf.old shelf.new)
         (model.now ∷ requests.now ∷ []))

@@ -2,7 +2,7 @@
 ghost use Rattle.std.specs.Prelude.{◌≡◌, ◌≤◌, length, IfOk, IfErr};
 ghost use Rattle.dt_model.specs.Accepted.{accepted_data};
 ghost use Rattle.dt_modeltext.specs.Read.{IsModelText};
-ghost use Rattle.dt_request.specs.Lists.{IsList, AsksEndsAlone};
+ghost use Rattle.dt_request.specs.Lists.{IsList};
 ghost use Rattle.dt_image.specs.Images.{IsImage};
 ghost use Rattle.dt_top.specs.Course.{Never};
 ghost use Rattle.dt_top.specs.Files.{limit_of};
@@ -16,7 +16,7 @@ use crate::status::Status;
 use dt_image::{Image, read_image};
 use dt_model::Accepted;
 use dt_modeltext::read_model;
-use dt_request::{RequestFault, Requests, read_requests};
+use dt_request::{Requests, read_requests};
 use dt_satisfy::matches;
 use std::alloc::Global;
 
@@ -38,15 +38,13 @@ pub fn request_list(alloc: Global, model: &Accepted, bytes: &[u8]) -> Result<Req
     requires { length bytes.now ≤ limit_of File.Requests }
     ensures text { IfOk result (IsRequests (accepted_data model.now) bytes.now) }
     ensures list { IfOk result (IsList (accepted_data model.now)) }
-    ensures ends { IfOk result AsksEndsAlone }
     ensures refused { IfErr result (λ reply.
         Replies (OnRequests (accepted_data model.now) bytes.now (λ list. Never))
         reply.status (bytes_of reply.text)) }
 {
     match read_requests(alloc, model, bytes) {
         Ok(list) => Ok(list),
-        Err(RequestFault::Memory) => Err(Reply::no_memory()),
-        Err(_) => Err(Reply::line(Status::RequestsRefused, "refused requests\n")),
+        Err(fault) => Err(Reply::refused(alloc, File::Requests, fault.line(), fault.word())),
     }
 }
 

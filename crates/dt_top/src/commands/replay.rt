@@ -3,7 +3,7 @@ ghost use Rattle.std.specs.Prelude.{◌≡◌, ◌≤◌, ◌∷◌, [], length,
 ghost use Rattle.std.specs.Option.{option_map};
 ghost use Rattle.std.specs.String.{string_bytes};
 ghost use Rattle.dt_model.specs.Accepted.{accepted_data};
-ghost use Rattle.dt_request.specs.Lists.{IsList, AsksEndsAlone};
+ghost use Rattle.dt_request.specs.Lists.{IsList};
 ghost use Rattle.dt_image.specs.Images.{IsImage};
 ghost use Rattle.dt_satisfy.specs.Satisfies.{Matches};
 ghost use Rattle.dt_top.specs.Course.{OnFile};
@@ -79,7 +79,6 @@ fn judged(
     image: &Image,
 ) -> Result<Reply, NoMemory>
     requires list { IsList (accepted_data model.now) list.now }
-    requires ends { AsksEndsAlone list.now }
     requires image { IsImage (accepted_data model.now) image.now }
     requires matches { Matches list.now image.now }
     ensures { IfOk result (λ reply. Replies (Judging (accepted_data model.now) list.now image.now)
@@ -97,7 +96,6 @@ fn judged(
 /// The answer about the image that a file's bytes spell, or the refusal of the bytes.
 pub fn image_reply(alloc: Global, model: &Accepted, list: &Requests, bytes: &[u8]) -> Reply
     requires list { IsList (accepted_data model.now) list.now }
-    requires ends { AsksEndsAlone list.now }
     requires within { length bytes.now ≤ limit_of File.Image }
     ensures { Replies (JudgingBytes (accepted_data model.now) list.now bytes.now)
         result.status (bytes_of result.text) }
@@ -121,7 +119,6 @@ fn replay_image<S: Shelf>(
     name: &str,
 ) -> Reply
     requires list { IsList (accepted_data model.now) list.now }
-    requires ends { AsksEndsAlone list.now }
     ensures shelf { StaysShelf S.told S.faults S.taken S.steady shelf.old shelf.new }
     ensures ends { Ends (in_call (seen S.told S.faults S.taken S.asked shelf.old shelf.new)
         (name.now ∷ []))

@@ -3,7 +3,7 @@ ghost use Rattle.std.specs.Prelude.{◌≡◌, ◌∷◌, [], map, IfOk};
 ghost use Rattle.std.specs.Option.{option_map};
 ghost use Rattle.std.specs.String.{string_bytes};
 ghost use Rattle.dt_model.specs.Accepted.{accepted_data};
-ghost use Rattle.dt_request.specs.Lists.{IsList, AsksEndsAlone};
+ghost use Rattle.dt_request.specs.Lists.{IsList};
 ghost use Rattle.dt_top.specs.Replies.{bytes_of};
 ghost use Rattle.dt_top.specs.Seen.{seen, StaysShelf};
 ghost use Rattle.dt_top.specs.Table.{in_call, Ends, Replies};
@@ -69,7 +69,6 @@ fn named<'a>(model: &'a str, requests: &'a str, splits: &str, seed: &str) -> Opt
 
 fn tried(alloc: Global, model: &Accepted, list: &Requests) -> Result<Reply, NoMemory>
     requires list { IsList (accepted_data model.now) list.now }
-    requires ends { AsksEndsAlone list.now }
     ensures { IfOk result (λ reply.
         Replies (Trying (accepted_data model.now) list.now) reply.status (bytes_of reply.text)) }
 {
@@ -89,7 +88,6 @@ fn tried(alloc: Global, model: &Accepted, list: &Requests) -> Result<Reply, NoMe
 /// The answer to a list: the image of zeros where it meets the list, else the record that it was tried.
 pub fn solve_reply(alloc: Global, model: &Accepted, list: &Requests) -> Reply
     requires list { IsList (accepted_data model.now) list.now }
-    requires ends { AsksEndsAlone list.now }
     ensures { Replies (Trying (accepted_data model.now) list.now) result.status (bytes_of result.text) }
 {
     match tried(alloc, model, list) {
