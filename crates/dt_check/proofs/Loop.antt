@@ -161,7 +161,7 @@ module _ (D : Type 0) (ops : DomainOps D) (p : ProblemData) where
       let tree = tree_of lines t in
       let same : limit ≡ n = subst (MayRecord limit) (sym e ∙ c) (may_record limit 0 lines _) in
       let u : verdict_of ops p (Budget n) (lines_of tree.0) ≡ Unfinished n =
-          subst (λ m. verdict_of ops p (Budget m) (lines_of tree.0) ≡ Unfinished n) same (ap (verdict_of ops p (Budget limit)) tree.1 ∙ sym e ∙ c) in
+      subst (λ m. verdict_of ops p (Budget m) (lines_of tree.0) ≡ Unfinished n) same (ap (verdict_of ops p (Budget limit)) tree.1 ∙ sym e ∙ c) in
       record { claims = ap Budget same; tree = tree.0; stands = tree.1; recorded = unfinished_record D ops p tree.0 n u }
 
   pub is_unfinished : (claim : Claim) (lines : List Line) (v : Verdict) (n : ℕ) → v ≡ verdict_of ops p claim lines → Record ops p claim lines n → v ≡ Unfinished n

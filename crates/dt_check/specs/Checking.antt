@@ -35,7 +35,12 @@ pub record State (D : Type 0) : Type 0 where
 
 abbrev pub state_of : {D : Type 0} → Checker D → State D
 state_of c = record {
-  cells = c.cells; trail = c.trail; pending = c.pending.items; splits = c.splits; opened = c.opened; settled = c.settled;
+  cells = c.cells;
+  trail = c.trail;
+  pending = c.pending.items;
+  splits = c.splits;
+  opened = c.opened;
+  settled = c.settled;
 }
 
 abbrev pub state : {D : Type 0} → List D → List (ℕ × D) → List Pending → ℕ → Bool → Option ℕ → State D

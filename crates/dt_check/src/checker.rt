@@ -89,7 +89,12 @@ impl<D: Domain> Checker<D> {
     }
 
     // What is found at a step.
-    fn read_step(&mut self, problem: &Problem, claim: Claim, step: Step) -> Result<Finding, NoMemory>
+    fn read_step(
+        &mut self,
+        problem: &Problem,
+        claim: Claim,
+        step: Step,
+    ) -> Result<Finding, NoMemory>
         requires state { IsState D.ops problem.now.terms claim (state_of self.old) }
         ensures found { IfOk result (λ finding. IsFound D.ops problem.now claim (step_line step) [] (state_of self.old) finding (state_of self.new)) }
         ensures splits { self.new.splits ≡ self.old.splits }
@@ -119,7 +124,12 @@ impl<D: Domain> Checker<D> {
     }
 
     // What is found at a Close item.
-    fn read_close(&mut self, problem: &Problem, claim: Claim, term: u32) -> Result<Finding, NoMemory>
+    fn read_close(
+        &mut self,
+        problem: &Problem,
+        claim: Claim,
+        term: u32,
+    ) -> Result<Finding, NoMemory>
         requires state { IsState D.ops problem.now.terms claim (state_of self.old) }
         ensures found { IfOk result (λ finding. IsFound D.ops problem.now claim (Close term) [] (state_of self.old) finding (state_of self.new)) }
         ensures splits { self.new.splits ≡ self.old.splits }
@@ -131,7 +141,12 @@ impl<D: Domain> Checker<D> {
     }
 
     // Why what was tried is refused.
-    fn trial_cause(&self, problem: &Problem, trial: &mut Trial, tries: &[(u32, u128)]) -> Option<Cause>
+    fn trial_cause(
+        &self,
+        problem: &Problem,
+        trial: &mut Trial,
+        tries: &[(u32, u128)],
+    ) -> Option<Cause>
         requires cells { AreCells D.ops problem.now.terms self.now.cells }
         requires within { All (λ change. change.0 < length self.now.cells) self.now.trail }
         requires settled { WasSettled D.ops problem.now.terms self.now.cells self.now.trail self.now.settled }
@@ -204,7 +219,8 @@ impl<D: Domain> Checker<D> {
                     bit,
                 };
                 self.pending.push(split)?;
-                self.cells.set_bit_kept(problem, term, bit, false, &mut self.trail)?;
+                self.cells
+                    .set_bit_kept(problem, term, bit, false, &mut self.trail)?;
                 self.splits += 1;
                 self.settled = settled_at(claim, split.length);
                 Ok(Finding::Passed)
@@ -223,7 +239,13 @@ impl<D: Domain> Checker<D> {
     }
 
     // Why a Loose item is refused.
-    fn loose_cause(&self, problem: &Problem, trial: &mut Trial, claim: Claim, tries: &[(u32, u128)]) -> Option<Cause>
+    fn loose_cause(
+        &self,
+        problem: &Problem,
+        trial: &mut Trial,
+        claim: Claim,
+        tries: &[(u32, u128)],
+    ) -> Option<Cause>
         requires cells { AreCells D.ops problem.now.terms self.now.cells }
         requires within { All (λ change. change.0 < length self.now.cells) self.now.trail }
         requires settled { WasSettled D.ops problem.now.terms self.now.cells self.now.trail self.now.settled }

@@ -25,7 +25,7 @@ fn are_settled<D: Domain>(problem: &Problem, cells: &Cells<D>) -> bool
 /// Whether the cells are settled. Where they were when the trail had a length that is told, only the
 /// cells that changed since then are looked at, and the steps that look at these or aim at them; else
 /// all are.
-pub fn is_settled_now<D: Domain>(
+pub(crate) fn is_settled_now<D: Domain>(
     problem: &Problem,
     watches: &Watches,
     cells: &Cells<D>,
