@@ -5,7 +5,6 @@ use std::alloc::{AllocError, Global};
 /// What stands for a character behind a backslash.
 fn escaped(c: char) -> char {
     match c {
-        'n' => '\n',
         't' => '\t',
         'n' => '\n',
         'r' => '\r',
