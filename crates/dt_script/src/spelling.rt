@@ -6,7 +6,6 @@ use std::alloc::{AllocError, Global};
 fn escaped(c: char) -> char {
     match c {
         't' => '\t',
-        'n' => '\n',
         'r' => '\r',
         '1' => '\u{1}',
         _ => c,
