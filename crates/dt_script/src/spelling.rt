@@ -5,6 +5,7 @@ use std::alloc::{AllocError, Global};
 /// What stands for a character behind a backslash.
 fn escaped(c: char) -> char {
     match c {
+        'n' => '\n',
         't' => '\t',
         'r' => '\r',
         '1' => '\u{1}',
