@@ -9,3 +9,6 @@ pub mod SpelledRows
 pub mod SpelledLists
 pub mod ReadLists
 pub mod PrintedLists
+pub mod Shapes
+pub mod OnlySpelled
+pub mod OnlyLists

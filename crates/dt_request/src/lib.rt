@@ -8,8 +8,9 @@
 //! model (`IsList` of `specs/Lists.antt`): bounds in whole words within the addresses, at most 16
 //! kept ranges and contexts, 64 accesses and 256 links, contexts and accesses with names of their
 //! own, at most 64 demands an access, positions of what is declared, codes of at most 65535, page
-//! exponents within the addresses, and numbers that fit their quantities. A text whose lines spell
-//! a list of the model (`IsListText` of `specs/Spelling.antt`) is read as that list.
+//! exponents within the addresses, and numbers that fit their quantities. The lines of the text
+//! spell it (`IsListText` of `specs/Spelling.antt`), and a text whose lines spell a list of the model
+//! is read as that list.
 //! `print_requests` gives exactly the one text of a list, which reads back as the same list.
 //! `choice_count` and `choice_bits` are exactly the formulas of `specs/Choices.antt`, and take no
 //! memory. A fault names exactly its line and its cause's word.

@@ -121,7 +121,8 @@ pub fn read_requests(
     requires { length bytes.now < 2 ^ 32 - 1 }
     ensures read { Gives is_memory (λ r. r) result (reading (accepted_data model.now) bytes.now) }
     ensures list { IfOk result (IsList (accepted_data model.now)) }
-    // A text whose lines spell a list, however they are written, is read as that list.
+    // Its lines spell the list, and each list that they spell, however they are written, is this one.
+    ensures text { IfOk result (IsListText (accepted_data model.now) bytes.now) }
     ensures spelled { (list : Requests) → IsListText (accepted_data model.now) bytes.now list
         → Gives is_memory (λ r. r) result (Ok list) }
 {
