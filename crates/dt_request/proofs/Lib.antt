@@ -1,3 +1,4 @@
+pub mod Results
 pub mod Names
 pub mod Demands
 pub mod Entries

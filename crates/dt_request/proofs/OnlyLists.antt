@@ -1,6 +1,5 @@
 -- A text that is read as a list is a text of the list.
-use Rattle.std.proofs.Common.{◌≡◌, ℕ, ◌+◌, Bool, true, false, cond, eqb, ltb, List, [], ◌∷◌, length, Option, Some, None, Result, Ok, Err, refl, sym, ap, subst, ◌∙◌}
-use Rattle.std.specs.Prelude.{All}
+use Rattle.std.proofs.Common.{◌≡◌, ℕ, ◌+◌, Bool, true, false, cond, eqb, ltb, List, [], ◌∷◌, length, Option, Some, None, Result, Ok, Err, refl, sym, subst, ◌∙◌}
 use Rattle.std.specs.List.{AllByRecursion}
 use Rattle.std.proofs.lemmas.Bool.{eqb-true}
 use Rattle.dt_lemmas.proofs.Lists.{all_of}
@@ -8,7 +7,7 @@ use Rattle.dt_lemmas.proofs.Options.{ok_is}
 use Rattle.dt_lex.specs.declared.fault.LexFault.{LexFault}
 use Rattle.dt_lex.specs.declared.fault.LexFault.TheVariants.{LineTooLong, BadByte}
 use Rattle.dt_lex.specs.Text.{lines_of, tokens_of, has_bad_byte, fault_of}
-use Rattle.dt_lex.specs.Reading.{◌>>=◌, with_place, unless_faulty, row_entry, line_entry, grow, reading_of}
+use Rattle.dt_lex.specs.Reading.{◌>>=◌, with_place, unless_faulty, row_entry, line_entry, grow}
 use Rattle.dt_lex.proofs.Loop.{run_from, reading_run}
 use Rattle.dt_model.specs.ModelData.{ModelData}
 use Rattle.dt_request.specs.declared.fault.RequestFault.{RequestFault}

@@ -1,7 +1,6 @@
 -- Lines that are read as a list spell it.
-use Rattle.std.proofs.Common.{◌≡◌, ℕ, zero, suc, ◌+◌, ◌^◌, ◌<◌, ◌≤◌, ◌⊎◌, Bool, true, false, cond, ◌&&◌, ltb, leb, List, [], ◌∷◌, ◌++◌, length, get_or, Option, Some, None, Result, Ok, Err, refl, sym, ap, subst, ◌∙◌, append_assoc, arith, inl, inr, ⊎_elim}
-use Rattle.std.specs.Prelude.{map, codes, slice_get, option_map, option_and_then, IfOk, IfSome, All}
-use Rattle.std.specs.Option.{option_map_or}
+use Rattle.std.proofs.Common.{◌≡◌, ℕ, zero, suc, ◌^◌, ◌<◌, ◌≤◌, ◌⊎◌, Bool, true, false, cond, ◌&&◌, ltb, leb, List, [], ◌∷◌, ◌++◌, length, get_or, Option, Some, None, Ok, Err, refl, sym, ap, subst, ◌∙◌, append_assoc, arith, inl, inr}
+use Rattle.std.specs.Prelude.{codes, slice_get, option_map, IfOk, IfSome}
 use Rattle.std.proofs.lemmas.Bool.{and_parts}
 use Rattle.std.proofs.lemmas.Option.{option_and_then_some, slice_get-get_or}
 use Rattle.std.proofs.lemmas.List.{append-nil, length_push}
@@ -9,10 +8,8 @@ use Rattle.std.proofs.lemmas.List.Quantifiers.{position-Some}
 use Rattle.dt_lemmas.proofs.Booleans.{two_on}
 use Rattle.dt_lemmas.proofs.Options.{chosen_ok, at_ok, at_some, some_if}
 use Rattle.dt_lex.specs.declared.name.Name.{Name}
-use Rattle.dt_lex.specs.declared.section.Standing.TheVariants.{In, Behind}
+use Rattle.dt_lex.specs.declared.section.Standing.TheVariants.{In}
 use Rattle.dt_lex.specs.Names.{name_of, same_name, no_name}
-use Rattle.dt_lex.specs.Numeral.{number_of}
-use Rattle.dt_lex.specs.Reading.{◌>>=◌}
 use Rattle.dt_lex.specs.Sections.{may_follow}
 use Rattle.dt_lex.proofs.Orders.{place_le, place_is}
 use Rattle.dt_lex.proofs.Padded.{same_name_is}
@@ -20,8 +17,7 @@ use Rattle.dt_model.specs.ModelData.{ModelData, ActData}
 use Rattle.dt_model.specs.Bounds.{bounds_fit}
 use Rattle.dt_model.specs.Faults.{is_named, names_of, is_read}
 use Rattle.dt_model.specs.Positions.{position_of}
-use Rattle.dt_request.specs.declared.fault.Cause.{Cause}
-use Rattle.dt_request.specs.declared.fault.Cause.TheVariants.{Form, TooMany, Unknown, Twice, OutOfRange}
+use Rattle.dt_request.specs.declared.fault.Cause.TheVariants.{Form, TooMany, Twice}
 use Rattle.dt_request.specs.declared.list.Quantity.{Quantity}
 use Rattle.dt_request.specs.declared.list.Quantity.TheVariants as quantity
 use Rattle.dt_request.specs.declared.list.Demand.{Demand}
@@ -44,9 +40,10 @@ use Rattle.dt_request.specs.declared.asked.Line.TheVariants as line
 use Rattle.dt_request.specs.declared.entry.Entry.{Entry}
 use Rattle.dt_request.specs.declared.entry.Entry.TheVariants as entry
 use Rattle.dt_request.specs.Lists.{is_fork, access_names}
-use Rattle.dt_request.specs.Entry.{Declared, sections, standing, is_allowed, node_names, is_step, step_where, quantity_in, side_in, sides_in, pages_in, link_in, known, in_range, can_be, measured_in, demand_in, access_at, last_demands, entry_of, meaning}
+use Rattle.dt_request.specs.Entry.{Declared, sections, standing, is_allowed, node_names, is_step, step_where, quantity_in, side_in, sides_in, pages_in, link_in, can_be, measured_in, demand_in, access_at, last_demands, entry_of, meaning}
 use Rattle.dt_request.specs.Draft.{nothing, with_demand, added}
 use Rattle.dt_request.specs.Spelling.{Row, SpellsName, SpellsQuantity, SpellsDemand, SpellsLink, SpellsHeader, SpellsBounds, SpellsKept, SpellsContext, SpellsAccess, SpellEach, SpellWish, SpellWishes, Spell}
+use Rattle.dt_request.proofs.Results.{known_ok, known_then, range_ok, then_ok, chained, mapped, itself}
 use Rattle.dt_request.proofs.Demands.{length_with, names_with}
 use Rattle.dt_request.proofs.SpelledRows.{spelled_row}
 use Rattle.dt_request.proofs.SpelledLists.{AreRead}
@@ -67,24 +64,6 @@ step_position : (kind : ActData → Bool) (d : ModelData) (n : Name) (i : ℕ) �
 step_position kind d n i e =
     option_and_then_some (λ k. cond (is_step kind d k) (Some k) None) (position_of (node_names d) n) i e (λ k at is. at ∙ ap (λ (j : ℕ). Some j) (some_if (is_step kind d k) k i is).1)
 
--- ---- results
-
-known_ok : {X Y : Type 0} (P : Y → Type 0) (o : Option X) (f : X → Y) → ((x : X) → o ≡ Some x → P (f x)) → IfOk (known o >>= λ x. Ok (f x)) P
-known_ok P None f h = tt
-known_ok P (Some x) f h = h x refl
-
-known_then : {X Y : Type 0} (P : Y → Type 0) (o : Option X) (f : X → Result Y Cause) → ((x : X) → o ≡ Some x → IfOk (f x) P) → IfOk (known o >>= f) P
-known_then P None f h = tt
-known_then P (Some x) f h = h x refl
-
-range_ok : {X : Type 0} (P : X → Type 0) (b : Bool) (x : X) → P x → IfOk (in_range b x) P
-range_ok P true x h = h
-range_ok P false x h = tt
-
-then_ok : {X Y : Type 0} (P : X → Type 0) (Q : Y → Type 0) (r : Result X Cause) (f : X → Y) → IfOk r P → ((x : X) → P x → Q (f x)) → IfOk (r >>= λ x. Ok (f x)) Q
-then_ok P Q (Ok x) f h k = k x h
-then_ok P Q (Err e) f h k = tt
-
 -- ---- demands
 
 quantity_spells : (d : ModelData) (asked : AskedQuantity) (of : Quantity) (q : Row) → quantity_in d asked ≡ Some of → QuantityShape asked q → SpellsQuantity d of q
@@ -103,7 +82,7 @@ quantity_spells d asked of q e h = choose asked (quantity_in d asked) refl e h
 
 measured_spells : (d : ModelData) (asked : AskedQuantity) (m n : ℕ) → IfOk (measured_in d asked m n) (λ of. quantity_in d asked ≡ Some of)
 measured_spells d asked m n =
-    known_then (λ of. quantity_in d asked ≡ Some of) (quantity_in d asked) _ (λ q at. range_ok (λ of. quantity_in d asked ≡ Some of) (can_be d q m && can_be d q n) q at)
+    known_then (λ of. quantity_in d asked ≡ Some of) (quantity_in d asked) _ (λ q at. range_ok (λ of. quantity_in d asked ≡ Some of) (can_be d q m && can_be d q n) q (λ _. at))
 
 demand_spells : (d : ModelData) (x : AskedDemand) (row : Row) → DemandShape x row → IfOk (demand_in d x) (λ y. SpellsDemand d y row)
 demand_spells d (Via n) row h = known_ok (λ y. SpellsDemand d y row) (position_of (node_names d) n) (λ i. demand.Via i) (λ i at. (h.0, spells_name (node_names d) n i h.0 at h.1, h.2))
@@ -111,26 +90,14 @@ demand_spells d (Avoid n) row h = known_ok (λ y. SpellsDemand d y row) (positio
 demand_spells d (Take n true) row h = known_ok (λ y. SpellsDemand d y row) (step_where is_fork d n) (λ i. demand.Take i true) (λ i at. (h.0, spells_name (node_names d) n i h.0 (step_position is_fork d n i at) h.1, h.2))
 demand_spells d (Take n false) row h = known_ok (λ y. SpellsDemand d y row) (step_where is_fork d n) (λ i. demand.Take i false) (λ i at. (h.0, spells_name (node_names d) n i h.0 (step_position is_fork d n i at) h.1, h.2))
 demand_spells d EndDone row h = h
-demand_spells d (EndFault code) row h = range_ok (λ y. SpellsDemand d y row) (leb code 65535) (demand.EndFault code) h
-demand_spells d (Page exponent) row h = range_ok (λ y. SpellsDemand d y row) (leb exponent d.address) (demand.Page exponent) h
+demand_spells d (EndFault code) row h = range_ok (λ y. SpellsDemand d y row) (leb code 65535) (demand.EndFault code) (λ _. h)
+demand_spells d (Page exponent) row h = range_ok (λ y. SpellsDemand d y row) (leb exponent d.address) (demand.Page exponent) (λ _. h)
 demand_spells d (Bits of mask value) row h =
     then_ok (λ q. quantity_in d of ≡ Some q) (λ y. SpellsDemand d y row) (measured_in d of mask value) (λ q. demand.Bits q mask value) (measured_spells d of mask value) (λ q at. (h.0, h.1, h.2, quantity_spells d of q h.0 at h.3, h.4, h.5, h.6))
 demand_spells d (Span of lo hi) row h =
     then_ok (λ q. quantity_in d of ≡ Some q) (λ y. SpellsDemand d y row) (measured_in d of lo hi) (λ q. demand.Span q lo hi) (measured_spells d of lo hi) (λ q at. (h.0, h.1, h.2, quantity_spells d of q h.0 at h.3, h.4, h.5, h.6))
 
 -- ---- links
-
-chained : {X Y : Type 0} (P : X → Type 0) (Q : Y → Type 0) (o : Option X) (f : X → Option Y) → IfSome o P → ((x : X) → P x → IfSome (f x) Q) → IfSome (option_and_then f o) Q
-chained P Q None f h k = tt
-chained P Q (Some x) f h k = k x h
-
-mapped : {X Y : Type 0} (P : X → Type 0) (Q : Y → Type 0) (o : Option X) (f : X → Y) → IfSome o P → ((x : X) → P x → Q (f x)) → IfSome (option_map f o) Q
-mapped P Q None f h k = tt
-mapped P Q (Some x) f h k = k x h
-
-itself : {X : Type 0} (o : Option X) → IfSome o (λ x. o ≡ Some x)
-itself None = tt
-itself (Some x) = refl
 
 -- the names of a side were found
 abbrev IsFound : ModelData → List Name → AskedSide → Side → Type 0
@@ -499,13 +466,13 @@ header_first true row h = h
 
 entry_kept : (d : ModelData) (so : Declared) (before : List Row) (l : Line) (row : Row) → may_follow sections so.place (standing l) ≡ true → is_allowed so.keeps l ≡ true → Shape l row → Spelt d so before → IfOk (entry_of d so.list l) (Leaves d so before row)
 entry_kept d so before (line.Header keeps) row at allowed h f = header_kept d so before keeps row (header_place so.place at) (header_first keeps row h) f
-entry_kept d so before (line.Tables lo hi) row at allowed h f = range_ok (Leaves d so before row) (bounds_fit d lo hi) (entry.Tables lo hi) (tables_kept d so before lo hi row (tables_place so.place at) h f)
+entry_kept d so before (line.Tables lo hi) row at allowed h f = range_ok (Leaves d so before row) (bounds_fit d lo hi) (entry.Tables lo hi) (λ _. tables_kept d so before lo hi row (tables_place so.place at) h f)
 entry_kept d so before (line.Keep lo hi) row at allowed h f =
     let low = behind 2 so.place refl refl at in
     let high = place_le sections so.place 2 at in
     let k : KeptRange = record { lo = lo; hi = hi } in
     chosen_ok (Leaves d so before row) (ltb (length so.list.kept) 16) _ (Err TooMany)
-    (λ few. range_ok (Leaves d so before row) (leb lo hi && leb hi (2 ^ d.address)) (entry.Keep k) (goes_on d (added so (entry.Keep k)) (snoc before row) (omega arith) (omega arith) (keep_step d so before k row (omega (arith, high)) allowed (front_of d so before low (omega (arith, high)) f) h)))
+    (λ few. range_ok (Leaves d so before row) (leb lo hi && leb hi (2 ^ d.address)) (entry.Keep k) (λ _. goes_on d (added so (entry.Keep k)) (snoc before row) (omega arith) (omega arith) (keep_step d so before k row (omega (arith, high)) allowed (front_of d so before low (omega (arith, high)) f) h)))
     (λ e. tt)
 entry_kept d so before (line.Context n) row at allowed h f =
     let low = behind 3 so.place refl refl at in

@@ -1,5 +1,5 @@
 -- What the tokens of a line are, where they spell one.
-use Rattle.std.proofs.Common.{◌≡◌, ℕ, Bool, true, false, cond, List, [], ◌∷◌, ◌++◌, Option, Some, None, refl, sym, ap, subst, ◌∙◌}
+use Rattle.std.proofs.Common.{◌≡◌, ℕ, Bool, true, false, cond, List, [], ◌∷◌, ◌++◌, Option, Some, None, refl, ap, ◌∙◌}
 use Rattle.std.specs.Prelude.{IfSome, option_map, codes}
 use Rattle.std.specs.Str.{bytes_eq}
 use Rattle.std.proofs.lemmas.Slice.Eq.{bytes_eq-Decides}
@@ -17,7 +17,7 @@ use Rattle.dt_request.specs.declared.asked.AskedLink.{AskedLink}
 use Rattle.dt_request.specs.declared.asked.AskedLink.TheVariants.{ShareTable, ShareCell, SharePage, ApartTable, ApartPage}
 use Rattle.dt_request.specs.declared.asked.Line.{Line}
 use Rattle.dt_request.specs.declared.asked.Line.TheVariants as line
-use Rattle.dt_request.specs.Line.{◌>>=◌, Front, first_by, name_at, number_at, names_at, numbers_at, lone, named_quantity, quantity_behind, quantity_at, measured_at, branch_of, take_of, ends_of, demand_of, side_at, sides_at, share_of, apart_of, header_of, spelled}
+use Rattle.dt_request.specs.Line.{◌>>=◌, Front, name_at, number_at, names_at, numbers_at, lone, named_quantity, quantity_behind, quantity_at, measured_at, branch_of, take_of, ends_of, demand_of, side_at, sides_at, share_of, apart_of, header_of, spelled}
 use Rattle.dt_request.specs.Spelling.{Row, SpellsBounds, SpellsContext}
 
 -- ---- shapes
