@@ -6,6 +6,8 @@
 //! |---|---|---|
 //! | `problem` | `problem` | an answer for each line, see `problems` |
 //! | `cells` | `problem`, `steps` | an answer for each step from the root cells, see `steps` |
+//! | `trail` | `problem`, `steps`, `undo N` | the same with a trail, and what undoing gives, see `trails` |
+//! | `users` | `problem` | for each term `users`, and the nodes that use it |
 //!
 //! Proved: each call is made where its conditions hold, and the program ends. Only tested: all else,
 //! and so that these calls answer something other than that memory ran out where there is enough.
@@ -15,6 +17,7 @@ mod answers;
 mod operators;
 mod problems;
 mod steps;
+mod trails;
 
 use crate::answers::Answers;
 use dt_edge::{FileShelf, OutSink, Sink};
