@@ -19,7 +19,7 @@
 //! use each term (`specs/Watching.antt`). `is_settled_since` is true exactly at settled cells, and
 //! looks only near what changed.
 //!
-//! A cell takes what its domain takes, and a pair of a trail 16 bytes more than a pair's 96. Only
+//! A cell takes what its domain takes, and a kept change 16 bytes more. Only
 //! `root`, `copy`, `Watches::new` and the kept calls take memory. A step costs one call of
 //! the domain's `narrowed_forward` or `narrowed_backward`, and writes only where the cell changes;
 //! `unsettled` goes at most once over all steps. `dt_box_bench` measures them: over pairs, whose

@@ -47,7 +47,9 @@ fn reported(rt: &HostRuntime) -> Option<Report> {
     let mut shelf = FileShelf::new(rt);
     let mut report = Report::new(rt.alloc());
     for name in env::args(rt).ok()?.skip(1) {
-        report.add_file::<Answers, _>(rt.alloc(), &mut shelf, name.as_str()).ok()?;
+        report
+            .add_file::<Answers, _>(rt.alloc(), &mut shelf, name.as_str())
+            .ok()?;
     }
     report.end().ok()?;
     Some(report)

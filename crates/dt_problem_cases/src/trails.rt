@@ -102,13 +102,25 @@ pub fn answered(alloc: Global, case: Case, out: &mut String) -> Result<(), NoMem
     let root: Cells<Pair> = Cells::root(alloc, &problem)?;
     let mut cells = root.copy(alloc)?;
     let mut trail = Trail::new(alloc)?;
-    take_lines(alloc, &problem, &mut cells, &mut trail, case.text("steps"), out)?;
+    take_lines(
+        alloc,
+        &problem,
+        &mut cells,
+        &mut trail,
+        case.text("steps"),
+        out,
+    )?;
     let length = case.words("undo").parse::<u64>().unwrap_or(0);
     if length <= trail.len() {
         cells.undo(&mut trail, length);
     }
     let same = are_same(&cells, &root);
-    writeln!(out, "{} {}", if same { "root cells" } else { "other cells" }, trail.len())?;
+    writeln!(
+        out,
+        "{} {}",
+        if same { "root cells" } else { "other cells" },
+        trail.len()
+    )?;
     Ok(())
 }
 
