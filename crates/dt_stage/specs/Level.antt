@@ -73,6 +73,10 @@ invalid_act p = branch (invalid (var p.level.entry)) p.fault (p.at + 2)
 abbrev pub node : Name → ActData → NodeData
 node n a = record { name = n; step = a }
 
+-- a test that goes one way or the other
+abbrev pub decides : Tree → ℕ → ℕ → ActData
+decides test then other = branch test then other
+
 -- level i + 1
 abbrev pub upper_nodes : UpperNames → ℕ → Placed → List NodeData
 upper_nodes n i p =

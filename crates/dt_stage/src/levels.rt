@@ -1,7 +1,7 @@
 // One level of a stage: the entry is read, and then judged.
 ghost use Rattle.std.specs.Prelude.{◌≡◌, ◌<◌, map, IfOk};
-ghost use Rattle.dt_model.specs.ModelData.{tree_of, act_of, node_of, var, branch};
-ghost use Rattle.dt_stage.specs.Level.{invalid, points, bad_pointer, stale, bad_upper_leaf, bad_last_leaf, placed_of, node as named, upper_nodes, last_nodes};
+ghost use Rattle.dt_model.specs.ModelData.{tree_of, act_of, node_of, var};
+ghost use Rattle.dt_stage.specs.Level.{invalid, points, bad_pointer, stale, bad_upper_leaf, bad_last_leaf, placed_of, node as named, decides, upper_nodes, last_nodes};
 
 use crate::trees::{bit, both, either, is, no, part};
 use dt_bits::NoMemory;
@@ -18,7 +18,7 @@ pub fn node(name: Name, act: Act) -> Node
 
 /// A node that tests.
 pub fn decision(name: Name, test: Expr, then_to: u32, other: u32) -> Node
-    ensures { node_of result ≡ named name (branch (tree_of test) then_to other) }
+    ensures { node_of result ≡ named name (decides (tree_of test) then_to other) }
 {
     node(
         name,
