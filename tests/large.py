@@ -162,7 +162,7 @@ def logs():
         return steps + ["split %d %d" % (at % 1000, at % 64), "close %d" % (at * 49979687 % 100000)]
 
     log("log_steps", "impossible", refuted, ["close 0"])
-    log("log_tries", "budget 0", lambda at: ["try 0 0x0"], ["open"])
+    log("log_tries", "budget 0", lambda at: ["try 0 0"], ["open"])
     pairs = (MOST_LOG - 40) // 15
     log("log_splits", "budget %d" % pairs, lambda at: ["split 0 0", "open"], ["open"])
     log("log_opens", "impossible", lambda at: ["open"], ["open"])

@@ -80,9 +80,9 @@ row 'a shipped model' 3 'refused words\n' solve @sv39 empty 0 1
 row 'an empty name' 3 'refused words\n' solve '' empty 0 1
 
 sed 's/^end$/bits in x 0xff 0x2\nend/' result >bits
-row 'a demand that is not read yet' 5 'refused requests\n' solve t1 bits 0 1
+row 'a demand on an input that zeros break' 2 "$record" solve t1 bits 0 1
 row 'a list in place of a model' 4 'refused model line 1 form\n' solve empty empty 0 1
-row 'a model in place of a list' 5 'refused requests\n' solve t1 t1 0 1
+row 'a model in place of a list' 5 'refused requests line 1 form\n' solve t1 t1 0 1
 row 'the tutorial, solved' 0 "image 1\ntables 0x1000 0x3000\ncontext 0x0\naccess 0 0x0\nend\n" \
     solve two_level_model two_level_outside 0 1
 
@@ -136,15 +136,15 @@ row 'a folder in place of a list' 7 'read fault requests\n' solve t1 folder 0 1
 
 : >nothing
 row 'an empty model' 4 'refused model line 1 form\n' solve nothing empty 0 1
-row 'an empty list' 5 'refused requests\n' solve t1 nothing 0 1
+row 'an empty list' 5 'refused requests line 1 form\n' solve t1 nothing 0 1
 sed '$d' t1 >cut
 row 'a model without its end' 4 'refused model line 13 form\n' solve cut empty 0 1
 sed '$d' empty >cut
-row 'a list without its end' 5 'refused requests\n' solve t1 cut 0 1
+row 'a list without its end' 5 'refused requests line 3 form\n' solve t1 cut 0 1
 { cat t1; echo end; } >more
 row 'a line after the end of a model' 4 'refused model line 14 form\n' solve more empty 0 1
 { cat empty; echo end; } >more
-row 'a line after the end of a list' 5 'refused requests\n' solve t1 more 0 1
+row 'a line after the end of a list' 5 'refused requests line 4 form\n' solve t1 more 0 1
 { cat t1; echo; echo '   '; } >blank
 row 'blank lines after the end' 0 "image 1\n${tables}end\n" solve blank empty 0 1
 printf 'end' | cat cut - >unended
@@ -160,7 +160,7 @@ for byte in '\177' '\200' '\0'; do
     { head -n 4 t1; printf "$byte\n"; } >odd
     row "the byte $byte in a model" 4 'refused model line 5 byte\n' solve odd empty 0 1
     { cat empty; printf "$byte"; } >odd
-    row "the byte $byte in a list" 5 'refused requests\n' solve t1 odd 0 1
+    row "the byte $byte in a list" 5 'refused requests line 4 byte\n' solve t1 odd 0 1
 done
 
 # Images that came from anywhere.
@@ -202,9 +202,57 @@ sed 's/0x80000001/0x80000000/' two_level_image >odd
 row 'the tutorial with an entry that is not valid' 1 'breaks 2\n' replay two_level_model two_level_mapped odd
 sed 's/0x80000001/0x1001/' two_level_image >odd
 row 'the tutorial with a page on a table' 1 'breaks 3\n' replay two_level_model two_level_mapped odd
+
+# Lists with demands and kept ranges.
+demanded='bits reg base 0xffff 0x1000\nbits in x 0xff 0x2\nbits word s 0xffffffffffffffff 0x3001\n'
+sed "s/^end\$/${demanded}end/" result >demands
+row 'demands that are met' 0 'satisfies\n' replay t1 demands image
+row 'an end that is not met' 1 'breaks 2\n' replay t1 demands unset
+sed 's/0 0x2$/0 0x3/; s/^word 0x1010/word 0x1018/' image >other
+row 'bits of an input that are not met' 1 'breaks 4\n' replay t1 demands other
+sed 's/context 0x1000/context 0x1004/' image >other
+row 'a context rule comes before demands' 1 'breaks 1\n' replay t1 demands other
+# keep LO HI: the list with this kept range.
+keep() { sed "s/^requests 1\$/requests 2/; 2s/\$/\nkeep $1 $2/" demands; }
+keep 0x1010 0x1011 >kept
+row 'a table in a kept range' 1 'breaks 7\n' replay t1 kept image
+keep 0x3000 0x3001 >kept
+row 'a page in a kept range' 1 'breaks 7\n' replay t1 kept image
+for range in '0x4000 0x5000' '0x2fff 0x3000' '0x3000 0x3000' '0x0 0x1000' '0x2000 0x3000'; do
+    keep $range >kept
+    row "a kept range that nothing touches, $range" 0 'satisfies\n' replay t1 kept image
+done
+keep 0x2 0x1 >kept
+row 'a kept range that falls' 5 'refused requests line 3 out-of-range\n' replay t1 kept image
+keep 0x0 0x10001 >kept
+row 'a kept range beyond the addresses' 5 'refused requests line 3 out-of-range\n' replay t1 kept image
+keep 0x4000 0x5000 | sed 's/^requests 2$/requests 1/' >kept
+row 'a kept range in a list of the first version' 5 'refused requests line 3 form\n' replay t1 kept image
+sed 's/^access a0 c0$/access a0 c1/' demands >odd
+row 'an unknown context' 5 'refused requests line 4 unknown\n' replay t1 odd image
+sed 's/^bits in x 0xff/bits in x 0x1ff/' demands >odd
+row 'a mask that is too wide' 5 'refused requests line 7 out-of-range\n' replay t1 odd image
+sed 3p demands >odd
+row 'a context twice' 5 'refused requests line 4 twice\n' replay t1 odd image
+
+# Each claim of a list with every demand and link, broken by an image of its number.
+claims=$top/examples/claims
+cp "$claims"/model claims_model
+cp "$claims"/list claims_list
+cp "$claims"/image claims_image
+row 'a list with every demand and link' 0 'satisfies\n' replay claims_model claims_list claims_image
+for file in "$claims"/broken/*; do
+    number=${file##*/}
+    cp "$file" claims_broken
+    row "claim $number is broken" 1 "breaks ${number#0}\n" replay claims_model claims_list claims_broken
+done
+cp "$claims"/never claims_never
+printf 'image 1\ntables 0x1000 0x6000\ncontext 0x1000\naccess 0 0x0 0x0\naccess 0 0x0 0x0\nend\n' >odd
+row 'demands that no walk meets are read' 1 'breaks 4\n' replay claims_model claims_never odd
+
 row 'an absent image' 7 'read fault image\n' replay t1 result none
 row 'a folder in place of an image' 7 'read fault image\n' replay t1 result folder
-row 'the list is read before the image' 5 'refused requests\n' replay t1 t1 none
+row 'the list is read before the image' 5 'refused requests line 1 form\n' replay t1 t1 none
 row 'the model is read before the list' 4 'refused model line 1 form\n' replay empty none none
 row 'replay with too few words' 3 'refused words\n' replay t1 result
 row 'replay with too many words' 3 'refused words\n' replay t1 result image 1
@@ -216,7 +264,7 @@ row 'a line of 16385 bytes in a model' 4 'refused model line 4 long\n' solve wid
 with_line empty 2 16384 >wide
 row 'a line of 16384 bytes in a list' 0 "image 1\n${tables}end\n" solve t1 wide 0 1
 with_line empty 2 16385 >wide
-row 'a line of 16385 bytes in a list' 5 'refused requests\n' solve t1 wide 0 1
+row 'a line of 16385 bytes in a list' 5 'refused requests line 2 long\n' solve t1 wide 0 1
 
 most=0xffffffffffffffffffffffffffffffff
 sed "s/(eq .*/(eq 128:$most 128:$most)/" t1 >constant

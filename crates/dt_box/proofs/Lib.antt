@@ -10,3 +10,4 @@ pub mod Trails
 pub mod Buckets
 pub mod Users
 pub mod Watching
+pub mod Unknown

@@ -3,7 +3,7 @@ use Rattle.std.proofs.Common.{◌≡◌, ℕ, zero, suc, ◌<◌, ◌≤◌, Lis
 use Rattle.std.proofs.Math.ListN.{drop_of_length-le}
 use Rattle.std.proofs.lemmas.List.{take-append-le}
 use Rattle.std.proofs.Math.Seq.{take-append_seam, take-length}
-use Rattle.std.specs.Prelude.{All}
+use Rattle.std.specs.Prelude.{All, Result, Ok, Err, IfOk, OnOk, OnErr}
 use Rattle.std.proofs.lemmas.List.Elements.{All-append, All-cons, All-nil, All-drop}
 use Rattle.std.proofs.lemmas.Bool.{cases_eq}
 use Rattle.dt_bits.specs.Bits.{width}
@@ -135,6 +135,22 @@ module _ {D : Type 0} (ops : DomainOps D) where
   kept_change cells trail t new d Narrowed l h = kept_one cells trail t new d l
   kept_change cells trail t new d BitKnown l h = kept_one cells trail t new d l
   kept_change cells trail t new d Empty l h = kept_one cells trail t new d l
+
+  -- what is kept where the new cell is put, or where there is no memory and the cell stays
+  pub kept_put : {E : Type 0} (cells : List D) (trail longer : List (ℕ × D)) (t : ℕ) (new old d : D) (r : Result Changed E) → t < length cells → old ≡ get_or cells t d
+      → IfOk r (λ changed. IsChange ops old new changed) → IfOk r (λ changed. longer ≡ with_change changed t old trail) → OnErr r ((new ≡ old) × (longer ≡ trail))
+      → IsKept cells trail (set cells t new) longer
+  kept_put cells trail longer t new old d (Ok changed) l e h k n =
+      subst (IsKept cells trail (set cells t new)) (sym (k ∙ ap (λ o. with_change changed t o trail) e))
+      (kept_change cells trail t new d changed l (subst (λ o. IsChange ops o new changed) e h))
+  kept_put cells trail longer t new old d (Err f) l e h k n =
+      subst (IsKept cells trail (set cells t new)) (sym n.1) (subst (λ ds. IsKept cells trail ds trail) (sym (set_same cells t d new l (n.0 ∙ e))) (kept_none cells trail))
+
+  -- and these are cells in either case
+  pub are_put : {E : Type 0} (P : List D → Type 0) (Q X : Type 0) (cells : List D) (t : ℕ) (new old made d : D) (r : Result Changed E) → t < length cells → old ≡ get_or cells t d
+      → OnOk r Q → OnErr r ((new ≡ old) × X) → (Q → new ≡ made) → P cells → P (set cells t made) → P (set cells t new)
+  are_put P Q X cells t new old made d (Ok changed) l e q n f a b = subst (λ m. P (set cells t m)) (sym (f q)) b
+  are_put P Q X cells t new old made d (Err fault) l e q n f a b = subst P (sym (set_same cells t d new l (n.0 ∙ e))) a
 
   -- where a trail holds domains, so does a longer one
   pub change_domains : (trail : List (ℕ × D)) (t : ℕ) (d : D) (changed : Changed) → All (λ change. ops.IsDomain change.1) trail → ops.IsDomain d

@@ -8,3 +8,4 @@ pub mod Trails
 pub mod Watching
 pub mod Buckets
 pub mod Users
+pub mod Unknown

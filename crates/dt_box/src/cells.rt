@@ -3,7 +3,7 @@ use crate::near::are_settled_after;
 use crate::propagation::{narrowed, target};
 use crate::root::{full_cells, require_ones};
 use crate::sweep::{first_empty, first_step, step_from, tells};
-use crate::trail::{keep, undo_to};
+use crate::trail::{put_kept, undo_to};
 use crate::{Changed, Step, Trail, Watches};
 use dt_bits::NoMemory;
 use dt_domain::Domain;
@@ -114,12 +114,11 @@ impl<D: Domain> Cells<D> {
         ensures are { AreCells D.ops problem.now.terms self.new }
         ensures kept { IsKept self.old trail.old self.new trail.new }
     {
-        trail.changes.reserve(1)?;
-        let at = target(problem.terms.as_slice(), step);
-        let old = self.cells[at as usize];
-        let changed = self.apply(problem, step);
-        keep(&mut trail.changes, changed, at, old);
-        Ok(changed)
+        let terms = problem.terms.as_slice();
+        let narrowed = narrowed(terms, &self.cells, step);
+        let at = target(terms, step);
+        let cell = &mut self.cells[at as usize];
+        put_kept(cell, at, narrowed, &mut trail.changes)
     }
 
     /// Sets a bit of the term at a position: its cell becomes the one that holds what it held with
@@ -160,11 +159,10 @@ impl<D: Domain> Cells<D> {
         ensures are { AreCells D.ops problem.now.terms self.new }
         ensures kept { IsKept self.old trail.old self.new trail.new }
     {
-        trail.changes.reserve(1)?;
-        let old = self.cells[term as usize];
-        let changed = self.set_bit(problem, term, bit, value);
-        keep(&mut trail.changes, changed, term, old);
-        Ok(changed)
+        let _ = &problem.terms;
+        let cell = &mut self.cells[term as usize];
+        let narrowed = Some(cell.with_bit(bit, value));
+        put_kept(cell, term, narrowed, &mut trail.changes)
     }
 
     /// The cells become what they were when the trail had this many pairs, and the trail keeps

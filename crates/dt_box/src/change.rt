@@ -14,7 +14,7 @@ fn knows_more<D: Domain>(old: &D, new: &D) -> bool
 }
 
 // What became of a domain that is as it was.
-fn unchanged<D: Domain>(domain: &D) -> Changed
+pub(crate) fn unchanged<D: Domain>(domain: &D) -> Changed
     requires { D.ops.IsDomain domain.now }
     ensures { IsChange D.ops domain.now domain.now result }
 {

@@ -1,7 +1,9 @@
-ghost use Rattle.std.specs.Prelude.{◌≡◌, ◌<◌, ◌≤◌, All, length, take, vec_capacity};
+ghost use Rattle.std.specs.Prelude.{◌≡◌, ◌<◌, ◌≤◌, All, length, take, IfOk, IfSome, MatchOption, OnOk, OnErr};
+ghost use Rattle.dt_box.specs.Changes.{IsChange};
 ghost use Rattle.dt_box.specs.Trails.{back, with_change};
 
 use crate::Changed;
+use crate::change::{change_of, unchanged};
 use dt_bits::NoMemory;
 use dt_domain::Domain;
 use std::alloc::Global;
@@ -46,16 +48,54 @@ impl<D: Domain> Trail<D> {
     }
 }
 
-// Keeps what a term's cell was, where it changed; there is room for it.
-pub(crate) fn keep<D: Domain>(changes: &mut Vec<(u32, D)>, changed: Changed, term: u32, earlier: D)
-    requires { length changes.old.items < vec_capacity changes.old }
-    ensures { changes.new.items ≡ with_change changed term earlier changes.old.items }
+// Keeps what a term's cell was, unless it stays as it is. Without memory for it nothing is kept.
+fn keep<D: Domain>(
+    changes: &mut Vec<(u32, D)>,
+    changed: Changed,
+    term: u32,
+    earlier: D,
+) -> Result<(), NoMemory>
+    ensures ok { OnOk result (changes.new.items ≡ with_change changed term earlier changes.old.items) }
+    ensures err { OnErr result (changes.new.items ≡ changes.old.items) }
 {
     match changed {
         Changed::No => {}
-        Changed::Narrowed => changes.push_reserved((term, earlier)),
-        Changed::BitKnown => changes.push_reserved((term, earlier)),
-        Changed::Empty => changes.push_reserved((term, earlier)),
+        Changed::Narrowed => changes.push((term, earlier))?,
+        Changed::BitKnown => changes.push((term, earlier))?,
+        Changed::Empty => changes.push((term, earlier))?,
+    }
+    Ok(())
+}
+
+// Puts into a term's cell what narrows it, if anything does, keeps what it was, unless it stays, and
+// says what became of it. Without memory for that, all stays.
+#[inline(always)]
+pub(crate) fn put_kept<D: Domain>(
+    cell: &mut D,
+    term: u32,
+    narrowed: Option<D>,
+    changes: &mut Vec<(u32, D)>,
+) -> Result<Changed, NoMemory>
+    requires cell { D.ops.IsDomain cell.old }
+    requires narrowed { IfSome narrowed D.ops.IsDomain }
+    ensures cell { OnOk result (MatchOption narrowed (cell.new ≡ cell.old) (λ new. cell.new ≡ new)) }
+    ensures change { IfOk result (λ changed. IsChange D.ops cell.old cell.new changed) }
+    ensures changes { IfOk result (λ changed. changes.new.items ≡ with_change changed term cell.old changes.old.items) }
+    ensures err { OnErr result ((cell.new ≡ cell.old) × (changes.new.items ≡ changes.old.items)) }
+{
+    match narrowed {
+        None => {
+            let changed = unchanged(cell);
+            keep(changes, changed, term, *cell)?;
+            Ok(changed)
+        }
+        Some(new) => {
+            let changed = change_of(cell, &new);
+            let earlier = *cell;
+            keep(changes, changed, term, earlier)?;
+            *cell = new;
+            Ok(changed)
+        }
     }
 }
 

@@ -1,5 +1,5 @@
 -- A record over a deciding domain has few splits.
-use Rattle.std.proofs.Common.{◌≡◌, ◌≢◌, ℕ, zero, suc, ◌+◌, ◌-◌, ◌*◌, ◌^◌, ◌<◌, ◌≤◌, Bool, true, false, not, ◌||◌, cond, List, [], ◌∷◌, ◌++◌, length, map, get_or, set, unwrap_or, Option, Some, None, refl, sym, ap, ◌∙◌, subst, inl, inr, ◌⊎◌, ⊎_elim, arith, length-set, get_or-set_same, get_or-set_other}
+use Rattle.std.proofs.Common.{◌≡◌, ◌≢◌, ℕ, zero, suc, ◌+◌, ◌-◌, ◌^◌, ◌<◌, ◌≤◌, Bool, true, false, ◌||◌, cond, List, [], ◌∷◌, ◌++◌, length, get_or, set, unwrap_or, Option, Some, None, refl, sym, ap, ◌∙◌, subst, inl, inr, ◌⊎◌, ⊎_elim, arith, length-set, get_or-set_same, get_or-set_other}
 use Rattle.std.specs.Prelude.{MatchOption}
 use Rattle.std.specs.List.{AllByRecursion}
 use Rattle.std.proofs.lemmas.List.{length-map, get_or-map}
@@ -9,27 +9,27 @@ use Rattle.std.proofs.Math.Nat.{pow-suc}
 use Rattle.dt_bits.specs.Bits.{bit, width, IsValue}
 use Rattle.dt_bits.specs.declared.value.Bv.{Bv}
 use Rattle.dt_bits.proofs.BitLemmas.{bit_of_small, bit_of_ones}
-use Rattle.dt_domain.specs.Domain.{DomainOps, DomainLaws, DecidingLaws, KnowsBit, Holds, IsAllKnown, bits_of}
+use Rattle.dt_domain.specs.Domain.{DomainOps, DomainLaws, DecidingLaws, KnowsBit, Holds}
 use Rattle.dt_terms.specs.declared.term.Term.{Term}
-use Rattle.dt_terms.specs.Terms.{term_at, bits_at, width_of_term, is_choice, AreTerms, choices_of, choice_at}
+use Rattle.dt_terms.specs.Terms.{term_at, width_of_term, is_choice, AreTerms, choices_of, choice_at}
 use Rattle.dt_terms.specs.Problem.{ProblemData, IsProblem}
 use Rattle.dt_terms.specs.Values.{IsAssignment, solves}
 use Rattle.dt_terms.proofs.Choices.{choice_there, choice_stands}
 use Rattle.dt_box.specs.declared.step.Step.{Step}
 use Rattle.dt_box.specs.declared.step.Step.TheVariants.{Forward, Backward}
-use Rattle.dt_box.specs.Cells.{cell_at, AreCells, is_required, root_cells, root_cell, certain}
+use Rattle.dt_box.specs.Cells.{cell_at, AreCells, root_cells, certain}
 use Rattle.dt_box.specs.Steps.{IsStep, target, narrowed, after_step, after_bit}
 use Rattle.dt_box.specs.Stillness.{HasNoEmpty, IsSettled}
-use Rattle.dt_box.proofs.Steps.{step_cells, bit_cells, step_narrows, at_set}
+use Rattle.dt_box.specs.Unknown.{IsUnknownBit, unknown_bits, bits_of_choices, AreRequiredKnown}
+use Rattle.dt_box.proofs.Unknown.{unknown_le, unknown_some, unknown_most, some_unknown, step_held, step_keeps_all, bit_held, bit_fewer}
+use Rattle.dt_box.proofs.Steps.{step_cells, bit_cells}
 use Rattle.dt_box.proofs.Knowledge.{step_keeps, step_empty, bit_decides}
 use Rattle.dt_box.proofs.Roots.{root_cells_are, root_cell_at}
 use Rattle.dt_log.specs.Trees.{Tree, forward, backward, close, split, loose, unvisited, splits_of, is_open, is_loose_first}
 use Rattle.dt_check.specs.Trials.{choice_cell, pick_at, picks, with_tries, tried, IsTry, IsFailedTrial, HoldChoices}
-use Rattle.dt_check.specs.Sound.{IsUnknownBit, IsSound}
-use Rattle.dt_check.specs.Records.{trials, IsRecord}
-use Rattle.dt_check.specs.Unknown.{unknown_bits, unknown_of, unknown_first, bits_of_choices}
-use Rattle.dt_check.proofs.Counting.{Keeps, unknown_le, unknown_lt, unknown_some, unknown_most}
-use Rattle.dt_check.proofs.Decided.{AreChoicesKnown, AreRequiredKnown, decided_solves, held_bit}
+use Rattle.dt_check.specs.Sound.{IsSound}
+use Rattle.dt_check.specs.Records.{trials, IsRecord, unknown_first}
+use Rattle.dt_check.proofs.Decided.{AreChoicesKnown, decided_solves, held_bit}
 
 pub append_parts : {X : Type 0} (P : X → Type 0) (xs ys : List X) → AllByRecursion P (xs ++ ys) → AllByRecursion P xs × AllByRecursion P ys
 append_parts P [] ys h = (tt, h)
@@ -68,10 +68,10 @@ module _ (D : Type 0) (ops : DomainOps D) (laws : DomainLaws ops) where
       ⊎_elim
       (λ (e : ops.is_empty (cell_at ops cells n) ≡ true). inr (record { at = n; within = h; empty = e }))
       (λ (e : ops.is_empty (cell_at ops cells n) ≡ false). inl (λ t m.
-          ⊎_elim
-          (λ (k : t < n). f t k)
-          (λ (k : n ≤ t). let s : n ≡ t = omega arith in subst (λ u. ops.is_empty (cell_at ops cells u) ≡ false) s e)
-          (cases_lt t n)))
+      ⊎_elim
+      (λ (k : t < n). f t k)
+      (λ (k : n ≤ t). let s : n ≡ t = omega arith in subst (λ u. ops.is_empty (cell_at ops cells u) ≡ false) s e)
+      (cases_lt t n)))
       (cases_Bool (ops.is_empty (cell_at ops cells n))))
       (λ (e : HasEmpty cells). inr e)
       (cases_below cells n (omega arith))
@@ -99,7 +99,7 @@ module _ (D : Type 0) (ops : DomainOps D) (laws : DomainLaws ops) where
       each = λ k l.
           ⊎_elim
           (λ (e : k ≡ try.0). subst (λ n. Holds ops (choice_cell ops terms cells n) (get_or (set numbers try.0 try.1) n 0)) (sym e)
-              (subst (Holds ops (choice_cell ops terms cells try.0)) (sym (get_or-set_same numbers try.0 try.1 0 (omega (arith, h.count, a.0.0)))) a.0.1))
+          (subst (Holds ops (choice_cell ops terms cells try.0)) (sym (get_or-set_same numbers try.0 try.1 0 (omega (arith, h.count, a.0.0)))) a.0.1))
           (λ (n : k ≢ try.0). subst (Holds ops (choice_cell ops terms cells k)) (sym (get_or-set_other numbers try.0 k try.1 0 n)) (h.each k l))
           (cases_eq k try.0);
     }) a.1
@@ -136,52 +136,12 @@ module _ (D : Type 0) (ops : DomainOps D) (laws : DomainLaws ops) where
           (cases_Bool (bit (ops.known_mask (cell_at ops cells t)) i));
     }
 
-    -- an unknown bit of a choice counts
-    pub some_unknown : (cells : List D) (t i : ℕ) → IsUnknownBit ops terms cells t i → 1 ≤ unknown_bits ops terms cells
-    some_unknown cells t i h =
-        let p = choice_there terms t h.term h.choice in
-        unknown_some D ops terms cells t i h.within h.unknown (choices_of terms) (choice_at terms t) p.0 p.1
-
-    -- ---- steps
-    step_held : (s : Step) (cells : List D) → AreCells ops terms cells → IsStep terms s → HasNoEmpty ops (after_step ops terms s cells) → ops.is_empty (narrowed ops terms s cells) ≡ false
-    step_held s cells h i n =
-        let w = (step_narrows D ops laws terms right s cells h i).within in
-        sym (ap ops.is_empty (get_or-set_same cells (target terms s) (narrowed ops terms s cells) (ops.full (width 1)) (omega (arith, h.count))))
-        ∙ n (target terms s) (omega (arith, h.count, length-set cells (target terms s) (narrowed ops terms s cells)))
-
-    known_bit : (d : D) (i : ℕ) → bit (ops.known_mask d) i ≡ true → KnowsBit ops d i (bit (ops.known_value d) i)
-    known_bit d i e = (e, refl)
-
-    step_keeps_all : (s : Step) (cells : List D) → AreCells ops terms cells → IsStep terms s → HasNoEmpty ops (after_step ops terms s cells) → Keeps D ops terms cells (after_step ops terms s cells)
-    step_keeps_all s cells h i n = record {
-      each = λ t j e. (step_keeps D ops laws terms right s cells t j (bit (ops.known_value (cell_at ops cells t)) j) h i (step_held s cells h i n) (known_bit (cell_at ops cells t) j e)).0;
-    }
-
     step_still_empty : (s : Step) (cells : List D) → AreCells ops terms cells → IsStep terms s → HasEmpty cells → HasEmpty (after_step ops terms s cells)
     step_still_empty s cells h i e = record {
       at = e.at;
       within = omega (arith, e.within, length-set cells (target terms s) (narrowed ops terms s cells));
       empty = step_empty D ops laws terms right s cells e.at h i e.empty;
     }
-
-    -- a bit that was set
-    module _ (decides : DecidingLaws ops) where
-      bit_held : (t i : ℕ) (v : Bool) (cells : List D) → AreCells ops terms cells → t < length terms → HasNoEmpty ops (after_bit ops t i v cells) → ops.is_empty (ops.with_bit (cell_at ops cells t) i v) ≡ false
-      bit_held t i v cells h l n =
-          sym (ap ops.is_empty (get_or-set_same cells t (ops.with_bit (cell_at ops cells t) i v) (ops.full (width 1)) (omega (arith, h.count))))
-          ∙ n t (omega (arith, h.count, length-set cells t (ops.with_bit (cell_at ops cells t) i v)))
-
-      bit_keeps_all : (t i : ℕ) (v : Bool) (cells : List D) → AreCells ops terms cells → t < length terms → i < bits_at terms t → HasNoEmpty ops (after_bit ops t i v cells) → Keeps D ops terms cells (after_bit ops t i v cells)
-      bit_keeps_all t i v cells h l m n = record {
-        each = λ u j e. ((bit_decides D ops laws terms right decides t i v cells h l m (bit_held t i v cells h l n)).1 u j (bit (ops.known_value (cell_at ops cells u)) j) (known_bit (cell_at ops cells u) j e)).0;
-      }
-
-      bit_fewer : (t i : ℕ) (v : Bool) (cells : List D) → AreCells ops terms cells → IsUnknownBit ops terms cells t i → HasNoEmpty ops (after_bit ops t i v cells)
-          → suc (unknown_bits ops terms (after_bit ops t i v cells)) ≤ unknown_bits ops terms cells
-      bit_fewer t i v cells h u n =
-          let p = choice_there terms t u.term u.choice in
-          let b = bit_decides D ops laws terms right decides t i v cells h u.term u.within (bit_held t i v cells h u.term n) in
-          unknown_lt D ops terms cells (after_bit ops t i v cells) (bit_keeps_all t i v cells h u.term u.within n) t i u.within u.unknown b.0.0 (choices_of terms) (choice_at terms t) p.0 p.1
 
   module _ (p : ProblemData) (problem : IsProblem p) where
     abbrev AreFailed : List (List D × List (ℕ × ℕ)) → Type 0
@@ -215,8 +175,7 @@ module _ (D : Type 0) (ops : DomainOps D) (laws : DomainLaws ops) where
     empty_loose (split tries t i zeros ones) cells h e s a f = held_not cells e a.0.settled.held
 
     -- required terms are known to be 1 in the root cells
-    pub root_required : AreRequiredKnown D ops laws p (root_cells ops p)
-    unfolding AreRequiredKnown
+    pub root_required : AreRequiredKnown ops p (root_cells ops p)
     root_required t l e =
         let v : Bv = record { width = width 1; bits = 1 } in
         let is : IsValue v = ((omega arith, omega arith), omega arith) in
@@ -228,7 +187,7 @@ module _ (D : Type 0) (ops : DomainOps D) (laws : DomainLaws ops) where
         subst (λ d. KnowsBit ops d 0 true) (sym cell) (mask, value)
 
     -- where all bits of all choices are known, what is tried at settled cells solves the problem
-    pub decided_trial : (cells : List D) (tries : List (ℕ × ℕ)) → AreCells ops p.terms cells → AreRequiredKnown D ops laws p cells → IsSettled ops p.terms cells → unknown_bits ops p.terms cells ≡ 0
+    pub decided_trial : (cells : List D) (tries : List (ℕ × ℕ)) → AreCells ops p.terms cells → AreRequiredKnown ops p cells → IsSettled ops p.terms cells → unknown_bits ops p.terms cells ≡ 0
         → AllByRecursion (IsTry ops p.terms cells) tries → solves p (tried ops p.terms cells tries) ≡ true
     decided_trial cells tries h r s e a =
         let c = tried_holds p.terms problem.terms cells tries h s.held a in
@@ -239,7 +198,7 @@ module _ (D : Type 0) (ops : DomainOps D) (laws : DomainLaws ops) where
       step_small : (s : Step) (cells : List D) (m : ℕ) → AreCells ops p.terms cells → IsStep p.terms s → HasNoEmpty ops (after_step ops p.terms s cells)
           → m ≤ 2 ^ unknown_bits ops p.terms (after_step ops p.terms s cells) → m ≤ 2 ^ unknown_bits ops p.terms cells
       step_small s cells m h i n l =
-          let k = unknown_le D ops p.terms cells (after_step ops p.terms s cells) (step_keeps_all p.terms problem.terms s cells h i n) (choices_of p.terms) in
+          let k = unknown_le D ops p.terms cells (after_step ops p.terms s cells) (step_keeps_all D ops laws p.terms problem.terms s cells h i n) (choices_of p.terms) in
           let q = pow_le (unknown_bits ops p.terms (after_step ops p.terms s cells)) (unknown_bits ops p.terms cells) k in
           omega arith
 
@@ -265,7 +224,7 @@ module _ (D : Type 0) (ops : DomainOps D) (laws : DomainLaws ops) where
           let c = bit_cells D ops laws p.terms problem.terms t i v cells h u.term u.within in
           ⊎_elim
           (λ (n : HasNoEmpty ops (after_bit ops t i v cells)).
-          let k = bit_fewer p.terms problem.terms decides t i v cells h u n in
+          let k = bit_fewer D ops laws p.terms problem.terms decides t i v cells h u n in
           let q = pow_le (unknown_bits ops p.terms (after_bit ops t i v cells)) (unknown_bits ops p.terms cells - 1) (omega arith) in
           let r = ih c n in
           omega arith)
@@ -286,39 +245,37 @@ module _ (D : Type 0) (ops : DomainOps D) (laws : DomainLaws ops) where
       small unvisited cells o h n s a = let q = pow_pos (unknown_bits ops p.terms cells) in omega arith
       small (split tries t i zeros ones) cells o h n s a =
           let parts = append_parts _ (trials ops p.terms zeros (after_bit ops t i false cells) o) (trials ops p.terms ones (after_bit ops t i true cells) (o || is_open zeros)) a.1 in
-          halves (unknown_bits ops p.terms cells) (splits_of zeros) (splits_of ones) (some_unknown p.terms problem.terms cells t i s.0)
+          halves (unknown_bits ops p.terms cells) (splits_of zeros) (splits_of ones) (some_unknown D ops laws p.terms problem.terms cells t i s.0)
           (child_small zeros t i false o cells h s.0 s.1 parts.0 (λ c m. small zeros (after_bit ops t i false cells) o c m s.1 parts.0))
           (child_small ones t i true (o || is_open zeros) cells h s.0 s.2 parts.1 (λ c m. small ones (after_bit ops t i true cells) (o || is_open zeros) c m s.2 parts.1))
 
       -- ---- required terms
-      pub step_required : (s : Step) (cells : List D) → AreCells ops p.terms cells → IsStep p.terms s → HasNoEmpty ops (after_step ops p.terms s cells) → AreRequiredKnown D ops laws p cells → AreRequiredKnown D ops laws p (after_step ops p.terms s cells)
-      unfolding AreRequiredKnown
-      step_required s cells h i n r t l e = step_keeps D ops laws p.terms problem.terms s cells t 0 true h i (step_held p.terms problem.terms s cells h i n) (r t l e)
+      pub step_required : (s : Step) (cells : List D) → AreCells ops p.terms cells → IsStep p.terms s → HasNoEmpty ops (after_step ops p.terms s cells) → AreRequiredKnown ops p cells → AreRequiredKnown ops p (after_step ops p.terms s cells)
+      step_required s cells h i n r t l e = step_keeps D ops laws p.terms problem.terms s cells t 0 true h i (step_held D ops laws p.terms problem.terms s cells h i n) (r t l e)
 
-      pub bit_required : (t i : ℕ) (v : Bool) (cells : List D) → AreCells ops p.terms cells → IsUnknownBit ops p.terms cells t i → HasNoEmpty ops (after_bit ops t i v cells) → AreRequiredKnown D ops laws p cells → AreRequiredKnown D ops laws p (after_bit ops t i v cells)
-      unfolding AreRequiredKnown
-      bit_required t i v cells h u n r k l e = (bit_decides D ops laws p.terms problem.terms decides t i v cells h u.term u.within (bit_held p.terms problem.terms decides t i v cells h u.term n)).1 k 0 true (r k l e)
+      pub bit_required : (t i : ℕ) (v : Bool) (cells : List D) → AreCells ops p.terms cells → IsUnknownBit ops p.terms cells t i → HasNoEmpty ops (after_bit ops t i v cells) → AreRequiredKnown ops p cells → AreRequiredKnown ops p (after_bit ops t i v cells)
+      bit_required t i v cells h u n r k l e = (bit_decides D ops laws p.terms problem.terms decides t i v cells h u.term u.within (bit_held D ops laws p.terms problem.terms decides t i v cells h u.term n)).1 k 0 true (r k l e)
 
       -- where a trial fails at settled cells, some bit of a choice is unknown
-      pub failed_unknown : (cells : List D) (tries : List (ℕ × ℕ)) → AreCells ops p.terms cells → AreRequiredKnown D ops laws p cells → IsFailedTrial ops p cells tries → 1 ≤ unknown_bits ops p.terms cells
+      pub failed_unknown : (cells : List D) (tries : List (ℕ × ℕ)) → AreCells ops p.terms cells → AreRequiredKnown ops p cells → IsFailedTrial ops p cells tries → 1 ≤ unknown_bits ops p.terms cells
       failed_unknown cells tries h r f =
           ⊎_elim
           (λ (l : 0 < unknown_bits ops p.terms cells). omega arith)
           (λ (l : unknown_bits ops p.terms cells ≤ 0).
           let c = tried_holds p.terms problem.terms cells tries h f.settled.held f.held in
           absurd (true≢false (sym (decided_solves D ops laws p cells (tried ops p.terms cells tries) problem h f.settled (held_assignment p.terms problem.terms cells (tried ops p.terms cells tries) h c) c
-              (none_unknown p.terms problem.terms cells (omega arith)) r) ∙ f.fails)))
+          (none_unknown p.terms problem.terms cells (omega arith)) r) ∙ f.fails)))
           (cases_lt 0 (unknown_bits ops p.terms cells))
 
       child_less : (tree : Tree) (t i : ℕ) (v : Bool) (cells : List D) → AreCells ops p.terms cells → IsUnknownBit ops p.terms cells t i → IsSound ops p.terms tree (after_bit ops t i v cells)
-          → AreFailed (trials ops p.terms tree (after_bit ops t i v cells) false) → is_loose_first tree ≡ true → AreRequiredKnown D ops laws p cells
-          → (AreCells ops p.terms (after_bit ops t i v cells) → HasNoEmpty ops (after_bit ops t i v cells) → AreRequiredKnown D ops laws p (after_bit ops t i v cells) → splits_of tree + 2 ≤ 2 ^ unknown_bits ops p.terms (after_bit ops t i v cells))
+          → AreFailed (trials ops p.terms tree (after_bit ops t i v cells) false) → is_loose_first tree ≡ true → AreRequiredKnown ops p cells
+          → (AreCells ops p.terms (after_bit ops t i v cells) → HasNoEmpty ops (after_bit ops t i v cells) → AreRequiredKnown ops p (after_bit ops t i v cells) → splits_of tree + 2 ≤ 2 ^ unknown_bits ops p.terms (after_bit ops t i v cells))
           → splits_of tree + 2 ≤ 2 ^ (unknown_bits ops p.terms cells - 1)
       child_less tree t i v cells h u d a f r ih =
           let c = bit_cells D ops laws p.terms problem.terms t i v cells h u.term u.within in
           ⊎_elim
           (λ (n : HasNoEmpty ops (after_bit ops t i v cells)).
-          let k = bit_fewer p.terms problem.terms decides t i v cells h u n in
+          let k = bit_fewer D ops laws p.terms problem.terms decides t i v cells h u n in
           let q = pow_le (unknown_bits ops p.terms (after_bit ops t i v cells)) (unknown_bits ops p.terms cells - 1) (omega arith) in
           let x = ih c n (bit_required t i v cells h u n r) in
           omega arith)
@@ -339,8 +296,8 @@ module _ (D : Type 0) (ops : DomainOps D) (laws : DomainLaws ops) where
           by_open false b c d e g = g e
 
       step_less : (rest : Tree) (s : Step) (cells : List D) → AreCells ops p.terms cells → IsStep p.terms s → IsSound ops p.terms rest (after_step ops p.terms s cells)
-          → AreFailed (trials ops p.terms rest (after_step ops p.terms s cells) false) → is_loose_first rest ≡ true → AreRequiredKnown D ops laws p cells
-          → (AreCells ops p.terms (after_step ops p.terms s cells) → HasNoEmpty ops (after_step ops p.terms s cells) → AreRequiredKnown D ops laws p (after_step ops p.terms s cells) → splits_of rest + 2 ≤ 2 ^ unknown_bits ops p.terms (after_step ops p.terms s cells))
+          → AreFailed (trials ops p.terms rest (after_step ops p.terms s cells) false) → is_loose_first rest ≡ true → AreRequiredKnown ops p cells
+          → (AreCells ops p.terms (after_step ops p.terms s cells) → HasNoEmpty ops (after_step ops p.terms s cells) → AreRequiredKnown ops p (after_step ops p.terms s cells) → splits_of rest + 2 ≤ 2 ^ unknown_bits ops p.terms (after_step ops p.terms s cells))
           → splits_of rest + 2 ≤ 2 ^ unknown_bits ops p.terms cells
       step_less rest s cells h i d a f r ih =
           let c = step_cells D ops laws p.terms problem.terms s cells h i in
@@ -350,7 +307,7 @@ module _ (D : Type 0) (ops : DomainOps D) (laws : DomainLaws ops) where
           (cases_empty (after_step ops p.terms s cells))
 
       -- with a first end that is loose, there is one fewer
-      less : (tree : Tree) (cells : List D) → AreCells ops p.terms cells → HasNoEmpty ops cells → AreRequiredKnown D ops laws p cells → IsSound ops p.terms tree cells → AreFailed (trials ops p.terms tree cells false) → is_loose_first tree ≡ true
+      less : (tree : Tree) (cells : List D) → AreCells ops p.terms cells → HasNoEmpty ops cells → AreRequiredKnown ops p cells → IsSound ops p.terms tree cells → AreFailed (trials ops p.terms tree cells false) → is_loose_first tree ≡ true
           → splits_of tree + 2 ≤ 2 ^ unknown_bits ops p.terms cells
       unfolding IsSound trials splits_of is_loose_first
       less (forward t rest) cells h n r s a f = step_less rest (Forward t) cells h s.0 s.1 a f r (λ c m q. less rest (after_step ops p.terms (Forward t) cells) c m q s.1 a f)
@@ -366,25 +323,25 @@ module _ (D : Type 0) (ops : DomainOps D) (laws : DomainLaws ops) where
         where
           by_open : (b : Bool) → is_open zeros ≡ b → cond b (is_loose_first zeros) (is_loose_first ones) ≡ true
               → AreFailed (trials ops p.terms zeros (after_bit ops t i false cells) false ++ trials ops p.terms ones (after_bit ops t i true cells) (is_open zeros))
-              → (AreCells ops p.terms (after_bit ops t i false cells) → HasNoEmpty ops (after_bit ops t i false cells) → AreRequiredKnown D ops laws p (after_bit ops t i false cells) → IsSound ops p.terms zeros (after_bit ops t i false cells) → AreFailed (trials ops p.terms zeros (after_bit ops t i false cells) false) → is_loose_first zeros ≡ true → splits_of zeros + 2 ≤ 2 ^ unknown_bits ops p.terms (after_bit ops t i false cells))
-              → (AreCells ops p.terms (after_bit ops t i true cells) → HasNoEmpty ops (after_bit ops t i true cells) → AreRequiredKnown D ops laws p (after_bit ops t i true cells) → IsSound ops p.terms ones (after_bit ops t i true cells) → AreFailed (trials ops p.terms ones (after_bit ops t i true cells) false) → is_loose_first ones ≡ true → splits_of ones + 2 ≤ 2 ^ unknown_bits ops p.terms (after_bit ops t i true cells))
+              → (AreCells ops p.terms (after_bit ops t i false cells) → HasNoEmpty ops (after_bit ops t i false cells) → AreRequiredKnown ops p (after_bit ops t i false cells) → IsSound ops p.terms zeros (after_bit ops t i false cells) → AreFailed (trials ops p.terms zeros (after_bit ops t i false cells) false) → is_loose_first zeros ≡ true → splits_of zeros + 2 ≤ 2 ^ unknown_bits ops p.terms (after_bit ops t i false cells))
+              → (AreCells ops p.terms (after_bit ops t i true cells) → HasNoEmpty ops (after_bit ops t i true cells) → AreRequiredKnown ops p (after_bit ops t i true cells) → IsSound ops p.terms ones (after_bit ops t i true cells) → AreFailed (trials ops p.terms ones (after_bit ops t i true cells) false) → is_loose_first ones ≡ true → splits_of ones + 2 ≤ 2 ^ unknown_bits ops p.terms (after_bit ops t i true cells))
               → (1 + (splits_of zeros + splits_of ones)) + 2 ≤ 2 ^ unknown_bits ops p.terms cells
           by_open true e g b ih jh =
               let parts = append_parts _ (trials ops p.terms zeros (after_bit ops t i false cells) false) (trials ops p.terms ones (after_bit ops t i true cells) (is_open zeros)) b in
-              halves_less (unknown_bits ops p.terms cells) (splits_of zeros) (splits_of ones) (some_unknown p.terms problem.terms cells t i s.0)
+              halves_less (unknown_bits ops p.terms cells) (splits_of zeros) (splits_of ones) (some_unknown D ops laws p.terms problem.terms cells t i s.0)
               (child_less zeros t i false cells h s.0 s.1 parts.0 g r (λ c m q. ih c m q s.1 parts.0 g))
               (child_small ones t i true (is_open zeros) cells h s.0 s.2 parts.1 (λ c m. small ones (after_bit ops t i true cells) (is_open zeros) c m s.2 parts.1))
           by_open false e g b ih jh =
               let parts = append_parts _ (trials ops p.terms zeros (after_bit ops t i false cells) false) (trials ops p.terms ones (after_bit ops t i true cells) (is_open zeros)) b in
               let last = subst (λ o. AreFailed (trials ops p.terms ones (after_bit ops t i true cells) o)) e parts.1 in
-              let x = halves_less (unknown_bits ops p.terms cells) (splits_of ones) (splits_of zeros) (some_unknown p.terms problem.terms cells t i s.0)
-                  (child_less ones t i true cells h s.0 s.2 last g r (λ c m q. jh c m q s.2 last g))
-                  (child_small zeros t i false false cells h s.0 s.1 parts.0 (λ c m. small zeros (after_bit ops t i false cells) false c m s.1 parts.0)) in
+              let x = halves_less (unknown_bits ops p.terms cells) (splits_of ones) (splits_of zeros) (some_unknown D ops laws p.terms problem.terms cells t i s.0)
+              (child_less ones t i true cells h s.0 s.2 last g r (λ c m q. jh c m q s.2 last g))
+              (child_small zeros t i false false cells h s.0 s.1 parts.0 (λ c m. small zeros (after_bit ops t i false cells) false c m s.1 parts.0)) in
               omega arith
 
       first_step_less : (rest : Tree) (s : Step) (cells : List D) → AreCells ops p.terms cells → IsStep p.terms s → IsSound ops p.terms rest (after_step ops p.terms s cells)
-          → AreFailed (trials ops p.terms rest (after_step ops p.terms s cells) false) → is_loose_first rest ≡ true → AreRequiredKnown D ops laws p cells
-          → (AreCells ops p.terms (after_step ops p.terms s cells) → HasNoEmpty ops (after_step ops p.terms s cells) → AreRequiredKnown D ops laws p (after_step ops p.terms s cells) → splits_of rest + 2 ≤ 2 ^ unknown_first ops p.terms rest (after_step ops p.terms s cells))
+          → AreFailed (trials ops p.terms rest (after_step ops p.terms s cells) false) → is_loose_first rest ≡ true → AreRequiredKnown ops p cells
+          → (AreCells ops p.terms (after_step ops p.terms s cells) → HasNoEmpty ops (after_step ops p.terms s cells) → AreRequiredKnown ops p (after_step ops p.terms s cells) → splits_of rest + 2 ≤ 2 ^ unknown_first ops p.terms rest (after_step ops p.terms s cells))
           → splits_of rest + 2 ≤ 2 ^ unknown_first ops p.terms rest (after_step ops p.terms s cells)
       first_step_less rest s cells h i d a f r ih =
           let c = step_cells D ops laws p.terms problem.terms s cells h i in
@@ -393,7 +350,7 @@ module _ (D : Type 0) (ops : DomainOps D) (laws : DomainLaws ops) where
           (λ (e : HasEmpty (after_step ops p.terms s cells)). absurd (empty_loose rest (after_step ops p.terms s cells) c e d a f))
           (cases_empty (after_step ops p.terms s cells))
 
-      first_less : (tree : Tree) (cells : List D) → AreCells ops p.terms cells → HasNoEmpty ops cells → AreRequiredKnown D ops laws p cells → IsSound ops p.terms tree cells → AreFailed (trials ops p.terms tree cells false) → is_loose_first tree ≡ true
+      first_less : (tree : Tree) (cells : List D) → AreCells ops p.terms cells → HasNoEmpty ops cells → AreRequiredKnown ops p cells → IsSound ops p.terms tree cells → AreFailed (trials ops p.terms tree cells false) → is_loose_first tree ≡ true
           → splits_of tree + 2 ≤ 2 ^ unknown_first ops p.terms tree cells
       unfolding IsSound trials splits_of is_loose_first unknown_first
       first_less (forward t rest) cells h n r s a f = first_step_less rest (Forward t) cells h s.0 s.1 a f r (λ c m q. first_less rest (after_step ops p.terms (Forward t) cells) c m q s.1 a f)

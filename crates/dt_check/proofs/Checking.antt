@@ -1,31 +1,28 @@
 -- The state of the checker, item by item.
-use Rattle.std.proofs.Common.{◌≡◌, ℕ, ◌+◌, ◌<◌, ◌≤◌, Bool, true, false, List, [], ◌∷◌, ◌++◌, length, take, reverse, Option, Some, None, refl, sym, ap, ◌∙◌, subst, arith}
+use Rattle.std.proofs.Common.{◌≡◌, ℕ, ◌+◌, ◌<◌, ◌≤◌, true, false, List, [], ◌∷◌, ◌++◌, length, take, reverse, Option, Some, None, sym, ap, ◌∙◌, subst, arith}
 use Rattle.std.specs.Prelude.{All}
-use Rattle.std.proofs.lemmas.List.{length-take-le, reverse-append}
+use Rattle.std.proofs.lemmas.List.{length-take-le}
 use Rattle.std.proofs.lemmas.List.Elements.{All-take, All-nil}
 use Rattle.dt_domain.specs.Domain.{DomainOps}
 use Rattle.dt_terms.specs.declared.term.Term.{Term}
-use Rattle.dt_terms.specs.Terms.{bits_at}
-use Rattle.dt_terms.specs.Problem.{ProblemData, IsProblem}
+use Rattle.dt_terms.specs.Problem.{ProblemData}
 use Rattle.dt_box.specs.declared.step.Step.{Step}
 use Rattle.dt_box.specs.declared.step.Step.TheVariants as steps
-use Rattle.dt_box.specs.Cells.{AreCells, root_cells}
-use Rattle.dt_box.specs.Steps.{IsStep, after_step, after_bit}
+use Rattle.dt_box.specs.Cells.{AreCells}
+use Rattle.dt_box.specs.Steps.{after_step, after_bit}
 use Rattle.dt_box.specs.Stillness.{IsSettled}
 use Rattle.dt_box.specs.Trails.{back, IsKept}
 use Rattle.dt_box.proofs.Trails.{kept_back, back_twice, back_whole}
-use Rattle.dt_log.specs.declared.line.Line.TheVariants.{Forward, Backward, Try, Split, Close, Loose, Unvisited}
+use Rattle.dt_log.specs.declared.line.Line.TheVariants.{Split, Close, Loose, Unvisited}
 use Rattle.dt_log.specs.declared.line.Claim.{Claim}
 use Rattle.dt_log.specs.declared.line.Claim.TheVariants.{Impossible, Budget}
-use Rattle.dt_check.specs.declared.verdict.Cause.{Cause}
 use Rattle.dt_check.specs.declared.pending.Pending.{Pending}
 use Rattle.dt_check.specs.declared.checker.Finding.{Finding}
 use Rattle.dt_check.specs.declared.checker.Finding.TheVariants.{Passed, Ended, Refused}
-use Rattle.dt_check.specs.Sound.{IsUnknownBit}
 use Rattle.dt_check.specs.Accepting.{SplitTrial}
 use Rattle.dt_check.specs.Reading.{reading, close_cause, split_cause, split_trial, loose_cause, unvisited_cause, step_cause}
-use Rattle.dt_check.specs.Waiting.{right_cells, waiting, Stacked, CanBegin, AtSplits, IsNext, IsBegun}
-use Rattle.dt_check.specs.Checking.{State, state, left, reading_at, WasSettled, settled_at, UnderBudget, IsSplitAt, IsState, IsTreeEnded, IsFound, step_line}
+use Rattle.dt_check.specs.Waiting.{waiting, Stacked, CanBegin, AtSplits, IsNext, IsBegun}
+use Rattle.dt_check.specs.Checking.{State, state, left, WasSettled, settled_at, UnderBudget, IsSplitAt, IsState, IsTreeEnded, IsFound, step_line}
 use Rattle.dt_check.proofs.Passing.{split_passed, split_trial_passed}
 use Rattle.dt_check.proofs.Waiting.{stacked_more, waiting_kept, turned}
 
@@ -112,19 +109,18 @@ module _ (D : Type 0) (ops : DomainOps D) where
         let at : back new longer q.length ≡ s.cells = kept_back s.cells s.trail new longer q.length k (omega (arith, n)) ∙ ap (back s.cells s.trail) n ∙ back_whole s.cells s.trail in
         let kept = state_kept p.terms claim s new longer h a k in
         let here : IsSplitAt ops p.terms claim s.cells q = record { begin = record { cells_are = h.cells_are; term = c2.0.term; bit = c2.0.within }; settled = quiet } in
-        let still : UnderBudget claim (IsSettled ops p.terms (back new longer q.length)) = subst (λ x. UnderBudget claim (IsSettled ops p.terms x)) (sym at) quiet in
-        (
+        let still : UnderBudget claim (IsSettled ops p.terms (back new longer q.length)) = subst (λ x. UnderBudget claim (IsSettled ops p.terms x)) (sym at) quiet in (
           c,
           two (λ x y. reading (x ∷ y) [] (s.splits + 1) s.opened) e
               (ap (waiting ops new longer) r
               ∙ two (λ x y. x ∷ y) (ap (after_bit ops q.term q.bit true) at) (waiting_kept D ops s.cells s.trail new longer qs k h.stacked)),
           record {
-              cells_are = a;
-              within = kept.within;
-              stacked = subst (Stacked (length longer)) (sym r) (omega (arith, n, k.within), subst (λ m. Stacked m qs) (sym n) h.stacked);
-              splits_at = subst (AtSplits (IsSplitAt ops p.terms claim) new longer) (sym r) (subst (λ x. IsSplitAt ops p.terms claim x q) (sym at) here, kept.splits_at);
-              settled = was_at p.terms claim new longer q.length (omega (arith, n, k.within)) still;
-            },
+            cells_are = a;
+            within = kept.within;
+            stacked = subst (Stacked (length longer)) (sym r) (omega (arith, n, k.within), subst (λ m. Stacked m qs) (sym n) h.stacked);
+            splits_at = subst (AtSplits (IsSplitAt ops p.terms claim) new longer) (sym r) (subst (λ x. IsSplitAt ops p.terms claim x q) (sym at) here, kept.splits_at);
+            settled = was_at p.terms claim new longer q.length (omega (arith, n, k.within)) still;
+          },
         )
 
     -- the next tree
@@ -144,18 +140,17 @@ module _ (D : Type 0) (ops : DomainOps D) where
         let same : length mid ≡ length cells = can.begin.cells_are.count ∙ sym h.cells_are.count in
         let count : length mid ≡ length new = can.begin.cells_are.count ∙ sym is.count in
         let far : (m : ℕ) → m ≤ q.length → back new longer m ≡ back cells trail m =
-                λ m l. kept_back mid (take q.length trail) new longer m b.kept (omega (arith, size)) ∙ back_twice cells trail m q.length l st.0 in
-        let l : q.length ≤ length longer = omega (arith, b.kept.within, size) in
-        (
+        λ m l. kept_back mid (take q.length trail) new longer m b.kept (omega (arith, size)) ∙ back_twice cells trail m q.length l st.0 in
+        let l : q.length ≤ length longer = omega (arith, b.kept.within, size) in (
           ap (λ x. reading x [] s.splits s.opened) e,
           record {
-              cells_are = is;
-              within = subst (λ k. All (λ (change : ℕ × D). change.0 < k) longer) count
-                  (b.kept.terms (subst (λ k. All (λ (change : ℕ × D). change.0 < k) (take q.length trail)) (sym same) (All-take (λ (change : ℕ × D). change.0 < length cells) q.length trail h.within)));
-              stacked = stacked_more q.length (length longer) qs l st.1;
-              splits_at = splits_same (IsSplitAt ops p.terms claim) new cells longer trail q.length qs st.1 far sp.1;
-              settled = was_at p.terms claim new longer q.length l (subst (λ x. UnderBudget claim (IsSettled ops p.terms x)) (sym (far q.length (omega arith))) can.settled);
-            },
+            cells_are = is;
+            within = subst (λ k. All (λ (change : ℕ × D). change.0 < k) longer) count
+                (b.kept.terms (subst (λ k. All (λ (change : ℕ × D). change.0 < k) (take q.length trail)) (sym same) (All-take (λ (change : ℕ × D). change.0 < length cells) q.length trail h.within)));
+            stacked = stacked_more q.length (length longer) qs l st.1;
+            splits_at = splits_same (IsSplitAt ops p.terms claim) new cells longer trail q.length qs st.1 far sp.1;
+            settled = was_at p.terms claim new longer q.length l (subst (λ x. UnderBudget claim (IsSettled ops p.terms x)) (sym (far q.length (omega arith))) can.settled);
+          },
         )
 
     -- a close

@@ -1,33 +1,33 @@
 -- At settled cells in which every bit of every choice is known, what is tried solves the problem.
-use Rattle.std.proofs.Common.{◌≡◌, ◌≢◌, ℕ, zero, suc, ◌+◌, ◌-◌, ◌^◌, ◌<◌, ◌≤◌, Bool, true, false, not, ◌&&◌, ◌||◌, eqb, List, [], ◌∷◌, length, take, get_or, bit_and, refl, sym, ap, ◌∙◌, subst, inl, inr, ◌⊎◌, ⊎_elim, arith}
+use Rattle.std.proofs.Common.{◌≡◌, ℕ, zero, suc, ◌-◌, ◌^◌, ◌<◌, ◌≤◌, Bool, true, false, not, ◌&&◌, ◌||◌, eqb, List, [], ◌∷◌, length, take, get_or, refl, sym, ap, ◌∙◌, subst, inl, inr, ⊎_elim, arith}
 use Rattle.std.specs.List.{list_all, list_any}
 use Rattle.std.specs.Prelude.{All}
-use Rattle.std.proofs.lemmas.Bool.{cases_Bool, cases_lt, false≢true, true≢false, or_parts, and_left, not-false, not_from_false, eqb-true, eq-eqb, and_from, or_cases, or_left, or_right}
+use Rattle.std.proofs.lemmas.Bool.{cases_lt, false≢true, true≢false, or_parts, eqb-true, eq-eqb, and_from, or_cases, or_left, or_right}
 use Rattle.std.proofs.lemmas.List.{get_or-take}
 use Rattle.std.proofs.lemmas.Nat.{pow_pos}
-use Rattle.dt_bits.specs.Bits.{bit, width, some_below}
-use Rattle.dt_bits.specs.Ops.{arity_of}
+use Rattle.dt_bits.specs.Bits.{bit}
 use Rattle.dt_bits.specs.declared.op.Op.{Op}
 use Rattle.dt_bits.specs.declared.value.Width.{Width}
 use Rattle.dt_bits.proofs.BitLemmas.{same_bits, bit_of_and, bit_of_ones, bit_of_small}
 use Rattle.dt_bits.proofs.Below.{none_below}
-use Rattle.dt_domain.specs.Domain.{DomainOps, DomainLaws, Holds, HoldUsed, KnowsBit, IsAllKnown, AreUsedKnown, AreAlike, bits_of, value_at}
+use Rattle.dt_domain.specs.Domain.{DomainOps, DomainLaws, Holds, KnowsBit, IsAllKnown, AreUsedKnown, AreAlike, bits_of}
 use Rattle.dt_terms.specs.declared.term.Term.{Term}
 use Rattle.dt_terms.specs.declared.term.Term.TheVariants.{Choice, Node}
-use Rattle.dt_terms.specs.Terms.{width_of_term, term_at, bits_at, is_choice, AreTerms, choices_of, choice_at}
+use Rattle.dt_terms.specs.Terms.{term_at, bits_at, is_choice, AreTerms, choice_at}
 use Rattle.dt_terms.specs.Problem.{ProblemData, IsProblem, IsTest}
 use Rattle.dt_terms.specs.Values.{IsAssignment, values_of, value_of_term, solves}
-use Rattle.dt_terms.proofs.Placed.{IsPlaced, placed, fits_parts}
+use Rattle.dt_terms.proofs.Placed.{placed}
 use Rattle.dt_terms.proofs.Choices.{choice_there}
 use Rattle.dt_terms.proofs.Valued.{value_is, values_fit, length-values_of}
-use Rattle.dt_box.specs.declared.step.Step.TheVariants.{Forward, Backward}
+use Rattle.dt_box.specs.declared.step.Step.TheVariants.{Forward}
 use Rattle.dt_box.specs.Changes.{knows_more}
-use Rattle.dt_box.specs.Cells.{cell_at, AreCells, HoldAssignment, is_required}
-use Rattle.dt_box.specs.Steps.{IsStep, IsNodeTerm, operand_cell, propagated_forward, propagated, narrowed}
-use Rattle.dt_box.specs.Stillness.{IsSettled, tells}
+use Rattle.dt_box.specs.Cells.{cell_at, AreCells, HoldAssignment}
+use Rattle.dt_box.specs.Steps.{IsStep, IsNodeTerm, operand_cell, propagated_forward, propagated}
+use Rattle.dt_box.specs.Stillness.{IsSettled}
+use Rattle.dt_box.specs.Unknown.{AreRequiredKnown}
 use Rattle.dt_box.proofs.Steps.{fitting, used_cell, step_alike}
 use Rattle.dt_box.proofs.Assignments.{node_value}
-use Rattle.dt_check.specs.Trials.{choice_cell, HoldChoices}
+use Rattle.dt_check.specs.Trials.{HoldChoices}
 
 module _ (D : Type 0) (ops : DomainOps D) (laws : DomainLaws ops) where
   -- a mask of all bits is full
@@ -85,12 +85,12 @@ module _ (D : Type 0) (ops : DomainOps D) (laws : DomainLaws ops) where
     cell_holds x h =
         let y = laws.holds_some cell j.cell_is j.held in
         let same : y.0 ≡ x = same_bits w y.0 x
-            (subst (λ n. y.0 < 2 ^ n) j.bits (laws.held_fits cell y.0 j.cell_is y.1))
-            (subst (λ n. x < 2 ^ n) (ap (λ v. v.0) (sym j.widths) ∙ j.bits) (laws.held_fits told x j.told_is h))
-            (λ i l. held_bit cell y.0 i j.cell_is y.1 (cell_bit i l)
-            ∙ sym (laws.meet_knows cell told i (bit (ops.known_value cell) i) alike meet_held (inl (cell_bit i l, refl))).1
-            ∙ (met i l).1
-            ∙ sym (held_bit told x i j.told_is h (told_bit i l))) in
+        (subst (λ n. y.0 < 2 ^ n) j.bits (laws.held_fits cell y.0 j.cell_is y.1))
+        (subst (λ n. x < 2 ^ n) (ap (λ v. v.0) (sym j.widths) ∙ j.bits) (laws.held_fits told x j.told_is h))
+        (λ i l. held_bit cell y.0 i j.cell_is y.1 (cell_bit i l)
+        ∙ sym (laws.meet_knows cell told i (bit (ops.known_value cell) i) alike meet_held (inl (cell_bit i l, refl))).1
+        ∙ (met i l).1
+        ∙ sym (held_bit told x i j.told_is h (told_bit i l))) in
         subst (Holds ops cell) same y.1
 
   -- every bit of every choice is known
@@ -99,7 +99,6 @@ module _ (D : Type 0) (ops : DomainOps D) (laws : DomainLaws ops) where
 
   module _ (terms : List Term) (right : AreTerms terms) (cells : List D) (h : AreCells ops terms cells) (s : IsSettled ops terms cells)
       (numbers : List ℕ) (i : IsAssignment terms numbers) (c : HoldChoices ops terms cells numbers) (all : AreChoicesKnown terms cells) where
-
     -- the cell of term t knows all bits, and holds the term's value
     pub record IsDecided (t : ℕ) : Type 0 where
       pub known : IsAllKnown ops (cell_at ops cells t)
@@ -152,9 +151,12 @@ module _ (D : Type 0) (ops : DomainOps D) (laws : DomainLaws ops) where
         let p = choice_there terms t l (ap is_choice e) in
         let n : get_or (values_of terms numbers) t 0 ≡ get_or numbers (choice_at terms t) 0 = value_is terms numbers t l ∙ ap (value_of_term terms numbers (take t (values_of terms numbers)) t) e in
         record {
-          known = (s.held t (omega (arith, h.count)), rw (bits_cell t l) (full_mask (bits_at terms t) (ops.known_mask (cell_at ops cells t))
-              (subst (λ n. ops.known_mask (cell_at ops cells t) < 2 ^ n) (bits_cell t l) (laws.mask_fits _ (h.domains t l)))
-              (λ j m. all.each t j l (ap is_choice e) m)));
+          known = (
+            s.held t (omega (arith, h.count)),
+            rw (bits_cell t l) (full_mask (bits_at terms t) (ops.known_mask (cell_at ops cells t))
+                (subst (λ n. ops.known_mask (cell_at ops cells t) < 2 ^ n) (bits_cell t l) (laws.mask_fits _ (h.domains t l)))
+                (λ j m. all.each t j l (ap is_choice e) m)),
+          );
           holds = subst (Holds ops (cell_at ops cells t)) (sym n) (subst (λ u. Holds ops (cell_at ops cells u) (get_or numbers (choice_at terms t) 0)) p.1 (c.each (choice_at terms t) p.0));
         }
 
@@ -178,10 +180,6 @@ module _ (D : Type 0) (ops : DomainOps D) (laws : DomainLaws ops) where
     pub all_hold : HoldAssignment ops terms cells numbers
     all_hold t l = (decided t (omega (arith, h.count))).holds
 
-  -- required terms are known to be 1
-  unfoldable pub AreRequiredKnown : ProblemData → List D → Type 0
-  AreRequiredKnown p cells = (t : ℕ) → t < length p.terms → is_required p t ≡ true → KnowsBit ops (cell_at ops cells t) 0 true
-
   one_from_bit : (v : ℕ) → v < 2 → bit v 0 ≡ true → v ≡ 1
   one_from_bit v l e = eqb-true v 1 (sym (bit_of_small v l) ∙ e)
 
@@ -201,13 +199,12 @@ module _ (D : Type 0) (ops : DomainOps D) (laws : DomainLaws ops) where
 
   -- what is tried solves the problem
   pub decided_solves : (p : ProblemData) (cells : List D) (numbers : List ℕ) → IsProblem p → AreCells ops p.terms cells → IsSettled ops p.terms cells
-      → IsAssignment p.terms numbers → HoldChoices ops p.terms cells numbers → AreChoicesKnown p.terms cells → AreRequiredKnown p cells → solves p numbers ≡ true
-  unfolding AreRequiredKnown
+      → IsAssignment p.terms numbers → HoldChoices ops p.terms cells numbers → AreChoicesKnown p.terms cells → AreRequiredKnown ops p cells → solves p numbers ≡ true
   decided_solves p cells numbers q h s i c k r =
       ones p.terms (values_of p.terms numbers) p.required (λ t e.
-          let test = required_there p.terms p.required t e q.required in
-          let v = all_hold p.terms q.terms cells h s numbers i c k t (omega (arith, h.count, test.0)) in
-          let b = r t test.0 e in
-          one_from_bit (get_or (values_of p.terms numbers) t 0)
-          (subst (λ n. get_or (values_of p.terms numbers) t 0 < 2 ^ n) test.1 (values_fit p.terms numbers q.terms i t (omega (arith, length-values_of p.terms numbers, test.0))))
-          (held_bit (cell_at ops cells t) (get_or (values_of p.terms numbers) t 0) 0 (h.domains t test.0) v b.0 ∙ b.1))
+      let test = required_there p.terms p.required t e q.required in
+      let v = all_hold p.terms q.terms cells h s numbers i c k t (omega (arith, h.count, test.0)) in
+      let b = r t test.0 e in
+      one_from_bit (get_or (values_of p.terms numbers) t 0)
+      (subst (λ n. get_or (values_of p.terms numbers) t 0 < 2 ^ n) test.1 (values_fit p.terms numbers q.terms i t (omega (arith, length-values_of p.terms numbers, test.0))))
+      (held_bit (cell_at ops cells t) (get_or (values_of p.terms numbers) t 0) 0 (h.domains t test.0) v b.0 ∙ b.1))

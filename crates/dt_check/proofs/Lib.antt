@@ -1,6 +1,5 @@
 pub mod Decided
 pub mod Refuted
-pub mod Counting
 pub mod Bound
 pub mod Testing
 pub mod Passing

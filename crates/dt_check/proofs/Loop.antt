@@ -1,6 +1,6 @@
 -- The checker's loop: what the items that are left say.
-use Rattle.std.proofs.Common.{◌≡◌, ℕ, zero, suc, ◌+◌, ◌<◌, ◌≤◌, Bool, true, false, ◌&&◌, cond, eqb, List, [], ◌∷◌, length, get_or, drop, drop-cons, Option, Some, None, refl, sym, ap, ◌∙◌, subst, inl, inr, ◌⊎◌, arith}
-use Rattle.std.proofs.lemmas.Bool.{false≢true, cases_Bool, cond-true, cond-false}
+use Rattle.std.proofs.Common.{◌≡◌, ℕ, suc, ◌+◌, ◌<◌, ◌≤◌, Bool, true, false, ◌&&◌, cond, eqb, List, [], ◌∷◌, length, get_or, drop, drop-cons, Option, Some, None, refl, sym, ap, ◌∙◌, subst, arith}
+use Rattle.std.proofs.lemmas.Bool.{false≢true}
 use Rattle.std.proofs.Math.ListN.{drop_of_length-le}
 use Rattle.dt_domain.specs.Domain.{DomainOps, DomainLaws}
 use Rattle.dt_terms.specs.declared.term.Term.{Term}
@@ -10,7 +10,7 @@ use Rattle.dt_log.specs.declared.line.Line.{Line}
 use Rattle.dt_log.specs.declared.line.Line.TheVariants.{Forward, Backward, Try, Split, Close, Loose, Unvisited}
 use Rattle.dt_log.specs.declared.line.Claim.{Claim}
 use Rattle.dt_log.specs.declared.line.Claim.TheVariants.{Impossible, Budget}
-use Rattle.dt_log.specs.Trees.{Tree, lines_of, splits_of, StandsFor}
+use Rattle.dt_log.specs.Trees.{lines_of}
 use Rattle.dt_log.specs.Shapes.{shape, is_done, is_tree}
 use Rattle.dt_log.specs.Shapes as shapes
 use Rattle.dt_log.proofs.Forests.{tree_of}
@@ -161,7 +161,7 @@ module _ (D : Type 0) (ops : DomainOps D) (p : ProblemData) where
       let tree = tree_of lines t in
       let same : limit ≡ n = subst (MayRecord limit) (sym e ∙ c) (may_record limit 0 lines _) in
       let u : verdict_of ops p (Budget n) (lines_of tree.0) ≡ Unfinished n =
-          subst (λ m. verdict_of ops p (Budget m) (lines_of tree.0) ≡ Unfinished n) same (ap (verdict_of ops p (Budget limit)) tree.1 ∙ sym e ∙ c) in
+      subst (λ m. verdict_of ops p (Budget m) (lines_of tree.0) ≡ Unfinished n) same (ap (verdict_of ops p (Budget limit)) tree.1 ∙ sym e ∙ c) in
       record { claims = ap Budget same; tree = tree.0; stands = tree.1; recorded = unfinished_record D ops p tree.0 n u }
 
   pub is_unfinished : (claim : Claim) (lines : List Line) (v : Verdict) (n : ℕ) → v ≡ verdict_of ops p claim lines → Record ops p claim lines n → v ≡ Unfinished n

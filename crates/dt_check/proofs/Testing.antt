@@ -1,19 +1,17 @@
 -- What the tests tell.
-use Rattle.std.proofs.Common.{◌≡◌, ℕ, zero, suc, ◌+◌, ◌<◌, Bool, true, false, not, ◌&&◌, cond, ltb, List, [], ◌∷◌, length, get_or, Option, Some, None, refl, sym, ap, ◌∙◌, subst, inl, inr, ◌⊎◌, ⊎_elim, arith}
+use Rattle.std.proofs.Common.{◌≡◌, ℕ, zero, suc, ◌+◌, ◌<◌, Bool, true, false, not, ◌&&◌, ltb, List, [], ◌∷◌, length, get_or, refl, sym, ap, ◌∙◌, subst, arith}
 use Rattle.std.specs.List.{list_all, range_with_len, AllByRecursion}
-use Rattle.std.proofs.lemmas.Bool.{cases_Bool, and_parts, and_from, ltb-true, lt-ltb, false≢true, true≢false, not-true}
+use Rattle.std.proofs.lemmas.Bool.{and_parts, and_from, ltb-true, lt-ltb, false≢true, not-true}
 use Rattle.std.proofs.lemmas.List.FromFn.{get_or-range_with_len, length-range_with_len}
 use Rattle.dt_bits.specs.Bits.{width}
-use Rattle.dt_bits.specs.Ops.{arity_of}
 use Rattle.dt_domain.specs.Domain.{DomainOps}
 use Rattle.dt_terms.specs.declared.term.Term.{Term}
 use Rattle.dt_terms.specs.declared.term.Term.TheVariants.{Choice, Node}
 use Rattle.dt_terms.specs.Terms.{term_at, choices_of}
 use Rattle.dt_box.specs.declared.step.Step.{Step}
 use Rattle.dt_box.specs.declared.step.Step.TheVariants.{Forward, Backward}
-use Rattle.dt_box.specs.Cells.{cell_at}
 use Rattle.dt_box.specs.Steps.{IsStep, IsNodeTerm, HasPlace}
-use Rattle.dt_box.specs.Stillness.{HasNoEmpty, IsSettled, IsStill, tells}
+use Rattle.dt_box.specs.Stillness.{IsSettled, tells}
 use Rattle.dt_check.specs.Trials.{IsTry}
 use Rattle.dt_check.specs.Tests.{is_node, arity_at, is_step, is_still_at, is_settled, is_try}
 
@@ -68,9 +66,9 @@ range_all f n i e l =
 pub range_from : (f : ℕ → Bool) (n : ℕ) → ((i : ℕ) → i < n → f i ≡ true) → list_all f (range_with_len 0 n) ≡ true
 range_from f n h =
     all_from f (range_with_len 0 n) 0 (λ k l.
-        let m : k < n = omega (arith, length-range_with_len 0 n) in
-        let z : 0 + k ≡ k = omega arith in
-        subst (λ j. f j ≡ true) (sym (get_or-range_with_len 0 n k 0 m ∙ z)) (h k m))
+    let m : k < n = omega (arith, length-range_with_len 0 n) in
+    let z : 0 + k ≡ k = omega arith in
+    subst (λ j. f j ≡ true) (sym (get_or-range_with_len 0 n k 0 m ∙ z)) (h k m))
 
 module _ (D : Type 0) (ops : DomainOps D) where
   pub try_is : (terms : List Term) (cells : List D) (try : ℕ × ℕ) → is_try ops terms cells try ≡ true → IsTry ops terms cells try
@@ -112,6 +110,6 @@ module _ (D : Type 0) (ops : DomainOps D) where
       and_from (list_all (λ d. not (ops.is_empty d)) cells) _
       (all_from (λ d. not (ops.is_empty d)) cells (ops.full (width 1)) (λ k l. ap not (h.held k l)))
       (range_from (is_still_at ops terms cells) (length terms) (λ t l.
-          and_from (not (is_node (term_at terms t) && tells ops terms (Forward t) cells)) _
-          (not_both_from (is_node (term_at terms t)) _ (λ e. h.still (Forward t) (l, node_is (term_at terms t) e)))
-          (range_from (λ k. not (tells ops terms (Backward t k) cells)) (arity_at (term_at terms t)) (λ k m. ap not (h.still (Backward t k) (l, place_is (term_at terms t) k m))))))
+      and_from (not (is_node (term_at terms t) && tells ops terms (Forward t) cells)) _
+      (not_both_from (is_node (term_at terms t)) _ (λ e. h.still (Forward t) (l, node_is (term_at terms t) e)))
+      (range_from (λ k. not (tells ops terms (Backward t k) cells)) (arity_at (term_at terms t)) (λ k m. ap not (h.still (Backward t k) (l, place_is (term_at terms t) k m))))))

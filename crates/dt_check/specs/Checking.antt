@@ -9,6 +9,7 @@ use Rattle.dt_box.specs.Stillness.{IsSettled}
 use Rattle.dt_box.specs.declared.step.Step.{Step}
 use Rattle.dt_box.specs.declared.step.Step.TheVariants as steps
 use Rattle.dt_box.specs.Trails.{back}
+use Rattle.dt_box.specs.Watching.{watches_of}
 use Rattle.dt_log.specs.declared.line.Line.{Line}
 use Rattle.dt_log.specs.declared.line.Line.TheVariants.{Forward, Backward, Try, Split, Close, Loose, Unvisited}
 use Rattle.dt_log.specs.declared.line.Claim.{Claim}
@@ -34,7 +35,12 @@ pub record State (D : Type 0) : Type 0 where
 
 abbrev pub state_of : {D : Type 0} → Checker D → State D
 state_of c = record {
-  cells = c.cells; trail = c.trail; pending = c.pending.items; splits = c.splits; opened = c.opened; settled = c.settled;
+  cells = c.cells;
+  trail = c.trail;
+  pending = c.pending.items;
+  splits = c.splits;
+  opened = c.opened;
+  settled = c.settled;
 }
 
 abbrev pub state : {D : Type 0} → List D → List (ℕ × D) → List Pending → ℕ → Bool → Option ℕ → State D
@@ -114,7 +120,8 @@ IsFound ops p claim line tries old Ended new =
     × (new.splits ≡ (after_line ops p.terms line (reading_at ops old tries)).splits)
     × (new.opened ≡ (after_line ops p.terms line (reading_at ops old tries)).opened)
 
--- there is room to try an assignment of the choices of these terms
+-- it was made to try assignments of the choices of these terms
 pub record HasRoom (terms : List Term) (trial : Trial) : Type 0 where
+  pub watches : trial.watches ≡ watches_of terms
   pub numbers : length trial.numbers.items ≡ length (choices_of terms)
   pub values : length trial.values.items ≡ length terms

@@ -1,5 +1,5 @@
 -- What the checker's verdicts say, over trees.
-use Rattle.std.specs.Prelude.{◌≡◌, ◌↔◌, ◌+◌, ◌<◌, ◌≤◌, ◌^◌, ℕ, Bool, true, false, List, length}
+use Rattle.std.specs.Prelude.{◌≡◌, ◌↔◌, ◌+◌, ◌≤◌, ◌^◌, ℕ, Bool, true, false, List}
 use Rattle.std.specs.List.{AllByRecursion}
 use Rattle.dt_domain.specs.Domain.{DomainOps, KnowsBit}
 use Rattle.dt_terms.specs.declared.term.Term.{Term}
@@ -7,9 +7,10 @@ use Rattle.dt_terms.specs.Problem.{ProblemData, IsProblem}
 use Rattle.dt_terms.specs.Terms.{AreTerms, choices_of}
 use Rattle.dt_terms.specs.Values.{IsAssignment, solves}
 use Rattle.dt_box.specs.declared.step.Step.{Step}
-use Rattle.dt_box.specs.Cells.{cell_at, AreCells, is_required, root_cells}
+use Rattle.dt_box.specs.Cells.{cell_at, AreCells, root_cells}
 use Rattle.dt_box.specs.Steps.{IsStep, after_step}
 use Rattle.dt_box.specs.Stillness.{IsSettled}
+use Rattle.dt_box.specs.Unknown.{unknown_bits, bits_of_choices, AreRequiredKnown}
 use Rattle.dt_log.specs.declared.line.Line.{Line}
 use Rattle.dt_log.specs.declared.line.Claim.{Claim}
 use Rattle.dt_log.specs.Trees.{Tree, lines_of, splits_of, StandsFor}
@@ -17,9 +18,8 @@ use Rattle.dt_log.specs.declared.line.Claim.TheVariants.{Impossible, Budget}
 use Rattle.dt_check.specs.declared.verdict.Verdict.TheVariants.{Closed, Unfinished}
 use Rattle.dt_check.specs.Trials.{tried, IsTry}
 use Rattle.dt_check.specs.Sound.{Refutes}
-use Rattle.dt_check.specs.Records.{IsRecord}
+use Rattle.dt_check.specs.Records.{IsRecord, unknown_first}
 use Rattle.dt_check.specs.Reading.{verdict_of}
-use Rattle.dt_check.specs.Unknown.{unknown_bits, unknown_first, bits_of_choices}
 
 -- the log of these lines refutes the problem, with s splits
 pub record Refutation {D : Type 0} (ops : DomainOps D) (p : ProblemData) (claim : Claim) (lines : List Line) (s : ℕ) : Type 0 where
@@ -62,18 +62,14 @@ StepsKeepBits {D} ops =
     → ops.is_empty (cell_at ops (after_step ops terms step cells) t) ≡ false
     → KnowsBit ops (cell_at ops cells t) i v → KnowsBit ops (cell_at ops (after_step ops terms step cells) t) i v
 
--- each required term is known to be 1
-abbrev pub AreRequired : {D : Type 0} → DomainOps D → ProblemData → List D → Type 0
-AreRequired ops p cells = (t : ℕ) → t < length p.terms → is_required p t ≡ true → KnowsBit ops (cell_at ops cells t) 0 true
-
--- so it is in the root cells
+-- in the root cells each required term is known to be 1
 abbrev pub RootsRequire : {D : Type 0} → DomainOps D → Type 0
-RootsRequire ops = (p : ProblemData) → IsProblem p → AreRequired ops p (root_cells ops p)
+RootsRequire ops = (p : ProblemData) → IsProblem p → AreRequiredKnown ops p (root_cells ops p)
 
 -- where required terms are known to be 1, at settled cells in which every bit of every choice is known, what
 -- is tried solves the problem
 abbrev pub DecidedSolves : {D : Type 0} → DomainOps D → Type 0
 DecidedSolves {D} ops =
-    (p : ProblemData) (cells : List D) (tries : List (ℕ × ℕ)) → IsProblem p → AreCells ops p.terms cells → AreRequired ops p cells
+    (p : ProblemData) (cells : List D) (tries : List (ℕ × ℕ)) → IsProblem p → AreCells ops p.terms cells → AreRequiredKnown ops p cells
     → IsSettled ops p.terms cells → unknown_bits ops p.terms cells ≡ 0
     → AllByRecursion (IsTry ops p.terms cells) tries → solves p (tried ops p.terms cells tries) ≡ true

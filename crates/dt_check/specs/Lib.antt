@@ -1,7 +1,6 @@
 pub mod Trials
 pub mod Sound
 pub mod Records
-pub mod Unknown
 pub mod Tests
 pub mod Reading
 pub mod Accepting

@@ -10,7 +10,7 @@ use dt_log::Claim;
 use dt_terms::Problem;
 
 /// Why a step is refused.
-pub fn step_cause(problem: &Problem, step: Step) -> Option<Cause>
+pub(crate) fn step_cause(problem: &Problem, step: Step) -> Option<Cause>
     ensures { result ≡ step_cause problem.now.terms step }
 {
     if step.is_of(problem) {
@@ -21,7 +21,11 @@ pub fn step_cause(problem: &Problem, step: Step) -> Option<Cause>
 }
 
 /// Why a Close item is refused.
-pub fn close_cause<D: Domain>(problem: &Problem, cells: &Cells<D>, term: u32) -> Option<Cause>
+pub(crate) fn close_cause<D: Domain>(
+    problem: &Problem,
+    cells: &Cells<D>,
+    term: u32,
+) -> Option<Cause>
     requires { AreCells D.ops problem.now.terms cells.now }
     ensures { result ≡ close_cause D.ops problem.now.terms cells.now term }
 {
@@ -36,7 +40,12 @@ pub fn close_cause<D: Domain>(problem: &Problem, cells: &Cells<D>, term: u32) ->
 }
 
 /// Why a Split item is refused, before what was tried is looked at.
-pub fn bit_cause<D: Domain>(problem: &Problem, cells: &Cells<D>, term: u32, bit: u32) -> Option<Cause>
+pub(crate) fn bit_cause<D: Domain>(
+    problem: &Problem,
+    cells: &Cells<D>,
+    term: u32,
+    bit: u32,
+) -> Option<Cause>
     requires { AreCells D.ops problem.now.terms cells.now }
     ensures { result ≡ split_cause D.ops problem.now.terms cells.now term bit None }
 {
@@ -58,15 +67,11 @@ pub fn bit_cause<D: Domain>(problem: &Problem, cells: &Cells<D>, term: u32, bit:
 }
 
 /// Why an Unvisited item is refused.
-pub fn unvisited_cause(claim: Claim, opened: bool) -> Option<Cause>
+pub(crate) fn unvisited_cause(claim: Claim, opened: bool) -> Option<Cause>
     ensures { result ≡ unvisited_cause claim opened }
 {
     match claim {
         Claim::Impossible => Some(Cause::WrongClaim),
-        Claim::Budget(_) => if opened {
-            None
-        } else {
-            Some(Cause::Untried)
-        },
+        Claim::Budget(_) => if opened { None } else { Some(Cause::Untried) },
     }
 }

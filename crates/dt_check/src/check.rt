@@ -55,7 +55,12 @@ fn read_items<D: Domain>(alloc: Global, problem: &Problem, log: &Log) -> Result<
         match checker.read_line(problem, &mut trial, log.claim, &tries, line)? {
             Finding::Passed => {}
             Finding::Ended => {
-                return Ok(end_verdict(log.claim, at as u32 + 1, checker.splits(), checker.is_opened()));
+                return Ok(end_verdict(
+                    log.claim,
+                    at as u32 + 1,
+                    checker.splits(),
+                    checker.is_opened(),
+                ));
             }
             Finding::Refused(cause) => {
                 return Ok(Verdict::Refused {
@@ -75,7 +80,11 @@ fn read_items<D: Domain>(alloc: Global, problem: &Problem, log: &Log) -> Result<
 /// problem, no assignment solves it, whatever the domain.
 ///
 /// A step costs one call of the domain, and going back costs as much as the changes that it undoes.
-pub fn check_log<D: Domain>(alloc: Global, problem: &Problem, log: &Log) -> Result<Verdict, NoMemory>
+pub fn check_log<D: Domain>(
+    alloc: Global,
+    problem: &Problem,
+    log: &Log,
+) -> Result<Verdict, NoMemory>
     requires { length log.now.lines < 2 ^ 32 }
     ensures verdict { IfOk result (λ v. v ≡ verdict_of D.ops problem.now log.now.claim log.now.lines) }
     ensures closed { IfOk result (λ v. (s : ℕ) → (v ≡ Closed s) ↔ Refutation D.ops problem.now log.now.claim log.now.lines s) }

@@ -2,7 +2,7 @@ ghost use Rattle.std.specs.Prelude.{◌≡◌};
 ghost use Rattle.dt_check.specs.Checking.{settled_at};
 
 use crate::causing::{bit_cause, close_cause, step_cause, unvisited_cause};
-use crate::settledness::are_settled;
+use crate::settledness::is_settled_now;
 use crate::trial::{Trial, hold_tries};
 use crate::turning::next_tree;
 use crate::{Cause, Pending};
@@ -49,7 +49,7 @@ pub(crate) struct Checker<D: Domain> {
 }
 
 impl<D: Domain> Checker<D> {
-    ghost use Rattle.std.specs.Prelude.{◌≡◌, ◌+◌, ◌^◌, ◌<◌, ◌≤◌, [], None, IfOk, length, true};
+    ghost use Rattle.std.specs.Prelude.{◌≡◌, ◌+◌, ◌^◌, ◌<◌, ◌≤◌, [], None, All, IfOk, length, true};
     ghost use Rattle.dt_terms.specs.Terms.{choices_of};
     ghost use Rattle.dt_box.specs.declared.step.Step.{Step};
     ghost use Rattle.dt_log.specs.declared.line.Claim.{Claim};
@@ -89,7 +89,12 @@ impl<D: Domain> Checker<D> {
     }
 
     // What is found at a step.
-    fn read_step(&mut self, problem: &Problem, claim: Claim, step: Step) -> Result<Finding, NoMemory>
+    fn read_step(
+        &mut self,
+        problem: &Problem,
+        claim: Claim,
+        step: Step,
+    ) -> Result<Finding, NoMemory>
         requires state { IsState D.ops problem.now.terms claim (state_of self.old) }
         ensures found { IfOk result (λ finding. IsFound D.ops problem.now claim (step_line step) [] (state_of self.old) finding (state_of self.new)) }
         ensures splits { self.new.splits ≡ self.old.splits }
@@ -119,7 +124,12 @@ impl<D: Domain> Checker<D> {
     }
 
     // What is found at a Close item.
-    fn read_close(&mut self, problem: &Problem, claim: Claim, term: u32) -> Result<Finding, NoMemory>
+    fn read_close(
+        &mut self,
+        problem: &Problem,
+        claim: Claim,
+        term: u32,
+    ) -> Result<Finding, NoMemory>
         requires state { IsState D.ops problem.now.terms claim (state_of self.old) }
         ensures found { IfOk result (λ finding. IsFound D.ops problem.now claim (Close term) [] (state_of self.old) finding (state_of self.new)) }
         ensures splits { self.new.splits ≡ self.old.splits }
@@ -131,14 +141,21 @@ impl<D: Domain> Checker<D> {
     }
 
     // Why what was tried is refused.
-    fn trial_cause(&self, problem: &Problem, trial: &mut Trial, tries: &[(u32, u128)]) -> Option<Cause>
+    fn trial_cause(
+        &self,
+        problem: &Problem,
+        trial: &mut Trial,
+        tries: &[(u32, u128)],
+    ) -> Option<Cause>
         requires cells { AreCells D.ops problem.now.terms self.now.cells }
+        requires within { All (λ change. change.0 < length self.now.cells) self.now.trail }
         requires settled { WasSettled D.ops problem.now.terms self.now.cells self.now.trail self.now.settled }
         requires room { HasRoom problem.now.terms trial.old }
         ensures cause { result ≡ trial_cause D.ops problem.now self.now.cells tries.now }
         ensures room { HasRoom problem.now.terms trial.new }
     {
-        if !are_settled(problem, &self.cells) {
+        let watches = trial.watches();
+        if !is_settled_now(problem, watches, &self.cells, &self.trail, self.settled) {
             return Some(Cause::NotSettled);
         }
         if !hold_tries(problem, &self.cells, tries) {
@@ -161,6 +178,7 @@ impl<D: Domain> Checker<D> {
         bit: u32,
     ) -> Option<Cause>
         requires cells { AreCells D.ops problem.now.terms self.now.cells }
+        requires within { All (λ change. change.0 < length self.now.cells) self.now.trail }
         requires settled { WasSettled D.ops problem.now.terms self.now.cells self.now.trail self.now.settled }
         requires room { HasRoom problem.now.terms trial.old }
         ensures cause { result ≡ split_cause D.ops problem.now.terms self.now.cells term bit (split_trial D.ops problem.now claim self.now.cells tries.now) }
@@ -201,7 +219,8 @@ impl<D: Domain> Checker<D> {
                     bit,
                 };
                 self.pending.push(split)?;
-                self.cells.set_bit_kept(problem, term, bit, false, &mut self.trail)?;
+                self.cells
+                    .set_bit_kept(problem, term, bit, false, &mut self.trail)?;
                 self.splits += 1;
                 self.settled = settled_at(claim, split.length);
                 Ok(Finding::Passed)
@@ -220,8 +239,15 @@ impl<D: Domain> Checker<D> {
     }
 
     // Why a Loose item is refused.
-    fn loose_cause(&self, problem: &Problem, trial: &mut Trial, claim: Claim, tries: &[(u32, u128)]) -> Option<Cause>
+    fn loose_cause(
+        &self,
+        problem: &Problem,
+        trial: &mut Trial,
+        claim: Claim,
+        tries: &[(u32, u128)],
+    ) -> Option<Cause>
         requires cells { AreCells D.ops problem.now.terms self.now.cells }
+        requires within { All (λ change. change.0 < length self.now.cells) self.now.trail }
         requires settled { WasSettled D.ops problem.now.terms self.now.cells self.now.trail self.now.settled }
         requires room { HasRoom problem.now.terms trial.old }
         ensures cause { result ≡ loose_cause D.ops problem.now claim self.now.opened self.now.cells tries.now }

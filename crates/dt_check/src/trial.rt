@@ -8,7 +8,7 @@ ghost use Rattle.dt_check.specs.Trials.{pick_at, picks, tried};
 ghost use Rattle.dt_check.specs.Tests.{is_try};
 
 use dt_bits::NoMemory;
-use dt_box::Cells;
+use dt_box::{Cells, Watches};
 use dt_domain::Domain;
 use dt_terms::Problem;
 use std::alloc::Global;
@@ -28,7 +28,11 @@ fn holds_try<D: Domain>(problem: &Problem, cells: &Cells<D>, choice: u32, value:
 }
 
 /// Whether each of these pairs names a choice, and a value that the choice's cell holds.
-pub fn hold_tries<D: Domain>(problem: &Problem, cells: &Cells<D>, tries: &[(u32, u128)]) -> bool
+pub(crate) fn hold_tries<D: Domain>(
+    problem: &Problem,
+    cells: &Cells<D>,
+    tries: &[(u32, u128)],
+) -> bool
     requires { AreCells D.ops problem.now.terms cells.now }
     ensures { result ≡ list_all (is_try D.ops problem.now.terms cells.now) tries.now }
 {
@@ -65,7 +69,12 @@ pub fn write_picks<D: Domain>(problem: &Problem, cells: &Cells<D>, out: &mut [u1
 
 /// Writes the assignment that is tried: the picks of the choices' cells, and over them each pair, the
 /// last one for a choice last.
-pub fn write_tried<D: Domain>(problem: &Problem, cells: &Cells<D>, tries: &[(u32, u128)], out: &mut [u128])
+pub fn write_tried<D: Domain>(
+    problem: &Problem,
+    cells: &Cells<D>,
+    tries: &[(u32, u128)],
+    out: &mut [u128],
+)
     requires cells { AreCells D.ops problem.now.terms cells.now }
     requires count { length out.old ≡ length (choices_of problem.now.terms) }
     requires tries { All (λ pair. pair.0 < length (choices_of problem.now.terms)) tries.now }
@@ -77,9 +86,11 @@ pub fn write_tried<D: Domain>(problem: &Problem, cells: &Cells<D>, tries: &[(u32
     }
 }
 
-/// Room to try an assignment: its numbers, and the values of the terms.
+/// What is needed to try an assignment of a problem: which nodes use each term, and room for the
+/// numbers and for the values of the terms.
 #[derive(Drop)]
 pub struct Trial {
+    watches: Watches,
     numbers: Vec<u128>,
     values: Vec<u128>,
 }
@@ -105,18 +116,31 @@ impl Trial {
     ghost use Rattle.dt_check.specs.Tests.{is_try};
     ghost use Rattle.dt_check.specs.Checking.{HasRoom};
 
-    /// Room for the problem's choices and terms.
+    /// Made for the problem.
     pub fn new(alloc: Global, problem: &Problem) -> Result<Trial, NoMemory>
         ensures { IfOk result (λ trial. HasRoom problem.now.terms trial) }
     {
         Ok(Trial {
+            watches: Watches::new(alloc, problem)?,
             numbers: zeros(alloc, problem.choice_count() as usize)?,
             values: zeros(alloc, problem.terms.len())?,
         })
     }
 
+    /// Which nodes use each term.
+    pub(crate) fn watches(&self) -> &Watches
+        ensures { result.now ≡ self.now.watches }
+    {
+        &self.watches
+    }
+
     /// Whether the assignment that these pairs and the picks of the cells give solves the problem.
-    pub fn solves<D: Domain>(&mut self, problem: &Problem, cells: &Cells<D>, tries: &[(u32, u128)]) -> bool
+    pub fn solves<D: Domain>(
+        &mut self,
+        problem: &Problem,
+        cells: &Cells<D>,
+        tries: &[(u32, u128)],
+    ) -> bool
         requires cells { AreCells D.ops problem.now.terms cells.now }
         requires held { HasNoEmpty D.ops cells.now }
         requires tries { list_all (is_try D.ops problem.now.terms cells.now) tries.now ≡ true }

@@ -52,7 +52,9 @@ fn push_tree(draft: &mut Draft, size: Size, refutes: bool) -> Result<u64, Stop> 
     for leaf in 0..leaves {
         let mut level = 0;
         if leaf > 0 {
-            let right = size.chains.saturating_sub(leaf.trailing_zeros().saturating_add(1));
+            let right = size
+                .chains
+                .saturating_sub(leaf.trailing_zeros().saturating_add(1));
             push_steps(draft, size, right)?;
             level = right.saturating_add(1);
         }
@@ -73,5 +75,7 @@ pub fn refutation(alloc: Global, size: Size) -> Result<Log, Stop> {
 pub fn record(alloc: Global, size: Size) -> Result<Log, Stop> {
     let mut draft = Draft::new(alloc);
     let leaves = push_tree(&mut draft, size, false)?;
-    draft.finish(Claim::Budget(leaves.saturating_sub(1))).ok_or(Stop::NoTree)
+    draft
+        .finish(Claim::Budget(leaves.saturating_sub(1)))
+        .ok_or(Stop::NoTree)
 }

@@ -72,7 +72,7 @@ fn measure_record(rt: &HostRuntime, shown: bool, size: Size) -> Result<(), Stop>
     measure(rt, shown, &problem, &log)
 }
 
-fn number(word: Option<&String>) -> u32 {
+fn number(word: Option<String>) -> u32 {
     match word {
         Some(word) => word.as_str().parse::<u32>().unwrap_or(0),
         None => 0,
@@ -80,20 +80,23 @@ fn number(word: Option<&String>) -> u32 {
 }
 
 fn main(rt: HostRuntime) -> Result<(), Stop> {
-    let words = env::args(&rt)?;
-    let words = words.as_slice();
-    if words.len() < 2 {
-        measure_refutation(&rt, false, SMALL)?;
-        return measure_record(&rt, false, SMALL);
-    }
-    let size = Size {
-        chains: number(words.get(2)).min(24),
-        nodes: number(words.get(3)),
-        terms: number(words.get(4)),
-    };
-    if words[1].as_str() == "record" {
-        measure_record(&rt, true, size)
-    } else {
-        measure_refutation(&rt, true, size)
+    let mut words = env::args(&rt)?.skip(1);
+    match words.next() {
+        None => {
+            measure_refutation(&rt, false, SMALL)?;
+            measure_record(&rt, false, SMALL)
+        }
+        Some(kind) => {
+            let size = Size {
+                chains: number(words.next()).min(24),
+                nodes: number(words.next()),
+                terms: number(words.next()),
+            };
+            if kind.as_str() == "record" {
+                measure_record(&rt, true, size)
+            } else {
+                measure_refutation(&rt, true, size)
+            }
+        }
     }
 }

@@ -41,8 +41,8 @@ impl Draft {
         self.lines.pop();
     }
 
-    /// The log of these lines, with this claim; None exactly where the lines aren't a tree. It takes
-    /// no memory.
+    /// The log of these lines, with this claim; None exactly where the lines aren't a tree. It goes
+    /// over the lines once, with counters in place of a stack, and takes no memory.
     pub fn finish(self, claim: Claim) -> Option<Log>
         ensures { MatchOption result (is_tree self.lines ≡ false) (λ log. (log.claim ≡ claim) × (log.lines ≡ self.lines)) }
     {

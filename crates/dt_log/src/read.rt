@@ -98,9 +98,10 @@ impl Reader for LogReader {
     }
 }
 
-/// The log that a text spells, or the first bad line and the first of its causes, or the first item
-/// where no tree can go on. One pass over the text and one over its items; an item takes 12 bytes,
-/// and the value of a try 16 more.
+/// The log that a text spells, or the first bad line and the first of its causes, or, where no line
+/// is bad, the first item where no tree can go on. It goes over the text once, and then over the
+/// items, with counters in place of a stack; beside the text it takes 12 bytes for an item, and 16
+/// more for the value of a try.
 pub fn read_log(alloc: Global, bytes: &[u8]) -> Result<Log, LogFault>
     requires { length bytes.now < 2 ^ 32 - 1 }
     ensures { Gives is_memory (λ log. (log.claim, log.lines)) result (reading bytes.now) }

@@ -13,8 +13,8 @@ struct Awaited {
 
 // The same, unless Try lines came last: a line that may not follow them.
 fn plain(trying: bool, trees: u64) -> Option<Awaited>
-    ensures none { MatchOption result (plain trying trees ≡ None) (λ a. plain trying trees ≡ Some (shape a.trees a.trying)) }
-    ensures most { MatchOption result (0 ≤ 1) (λ a. a.trees ≤ trees) }
+    ensures shape { MatchOption result (plain trying trees ≡ None) (λ a. plain trying trees ≡ Some (shape a.trees a.trying)) }
+    ensures most { IfSome result (λ a. a.trees ≤ trees) }
 {
     if trying {
         None
@@ -30,7 +30,7 @@ fn plain(trying: bool, trees: u64) -> Option<Awaited>
 fn after(awaited: Awaited, line: Line) -> Option<Awaited>
     requires { awaited.trees + 1 < 2 ^ 64 }
     ensures shape { MatchOption result (after_line (shape awaited.trees awaited.trying) line ≡ None) (λ a. after_line (shape awaited.trees awaited.trying) line ≡ Some (shape a.trees a.trying)) }
-    ensures most { MatchOption result (0 ≤ 1) (λ a. a.trees ≤ awaited.trees + 1) }
+    ensures most { IfSome result (λ a. a.trees ≤ awaited.trees + 1) }
 {
     if awaited.trees == 0 {
         return None;

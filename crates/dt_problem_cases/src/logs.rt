@@ -7,12 +7,13 @@ use dt_bits::NoMemory;
 use dt_check::{Verdict, check_log};
 use dt_domain::Domain;
 use dt_known::Known;
-use dt_log::{Log, LogFault, read_log};
+use dt_log::{Log, LogFault, print_log, read_log};
 use dt_pair::Pair;
 use dt_range::Range;
 use dt_script::Case;
 use dt_terms::Problem;
 use std::alloc::{AllocError, Global};
+use std::str;
 
 fn push_verdict(out: &mut String, verdict: Verdict) -> Result<(), AllocError> {
     match verdict {
@@ -41,6 +42,18 @@ fn push_checked<D: Domain>(
     }
     let verdict = check_log::<D>(alloc, problem, log)?;
     push_verdict(out, verdict)?;
+    Ok(())
+}
+
+/// The printed text of the log, or which line or item is wrong, and why.
+pub fn printed(alloc: Global, case: Case, out: &mut String) -> Result<(), NoMemory> {
+    match read_log(alloc, case.text("log").as_bytes()) {
+        Err(fault) => push_fault(out, fault)?,
+        Ok(log) => {
+            let text = print_log(alloc, &log)?;
+            out.push_str(str::from_utf8(text.as_slice()).unwrap_or("no text"))?;
+        }
+    }
     Ok(())
 }
 

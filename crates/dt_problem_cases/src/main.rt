@@ -1,11 +1,14 @@
-//! Cases of problems of terms and of their cells, as texts: what the calls make of them, line by
-//! line, and what they must. The words of the program name files of cases; `dt_script` says how these
-//! are written.
+//! Cases of problems of terms, of their cells and of logs, as texts: what the calls make of them,
+//! line by line, and what they must. The words of the program name files of cases; `dt_script` says
+//! how these are written.
 //!
 //! | call | parts | answer |
 //! |---|---|---|
 //! | `problem` | `problem` | an answer for each line, see `problems` |
 //! | `cells` | `problem`, `steps` | an answer for each step from the root cells, see `steps` |
+//! | `trail` | `problem`, `steps`, `undo N` | the same with a trail, and what undoing gives, see `trails` |
+//! | `users` | `problem` | for each term `users`, and the nodes that use it |
+//! | `log` | `log` | its printed text, or which line or item is wrong, and why |
 //! | `check known`, `check range`, `check pair` | `problem`, `log` | what the checker says over this domain, see `logs` |
 //!
 //! Proved: each call is made where its conditions hold, and the program ends. Only tested: all else,
@@ -17,6 +20,7 @@ mod logs;
 mod operators;
 mod problems;
 mod steps;
+mod trails;
 
 use crate::answers::Answers;
 use dt_edge::{FileShelf, OutSink, Sink};
@@ -29,7 +33,9 @@ fn reported(rt: &HostRuntime) -> Option<Report> {
     let mut shelf = FileShelf::new(rt);
     let mut report = Report::new(rt.alloc());
     for name in env::args(rt).ok()?.skip(1) {
-        report.add_file::<Answers, _>(rt.alloc(), &mut shelf, name.as_str()).ok()?;
+        report
+            .add_file::<Answers, _>(rt.alloc(), &mut shelf, name.as_str())
+            .ok()?;
     }
     report.end().ok()?;
     Some(report)

@@ -1,6 +1,6 @@
 -- Each line that is not at fault leaves a list of the model.
-use Rattle.std.proofs.Common.{◌≡◌, ℕ, ◌+◌, ◌^◌, ◌<◌, ◌≤◌, Bool, true, false, cond, ltb, leb, ◌&&◌, List, [], ◌∷◌, ◌++◌, length, Option, Some, None, Result, Ok, Err, refl, sym, ap, subst, ◌∙◌, arith}
-use Rattle.std.specs.Prelude.{map, slice_get, option_map, option_and_then, IfOk, IfSome, IsTrue, IsSomeAnd, All}
+use Rattle.std.proofs.Common.{◌≡◌, ℕ, ◌^◌, ◌<◌, ◌≤◌, Bool, true, false, cond, ltb, leb, ◌&&◌, List, [], ◌∷◌, ◌++◌, length, Option, Some, None, Ok, Err, refl, sym, subst, arith}
+use Rattle.std.specs.Prelude.{map, slice_get, IfOk, IfSome, IsTrue, IsSomeAnd, All}
 use Rattle.std.specs.Option.{option_map_or}
 use Rattle.std.proofs.lemmas.Bool.{and_parts, leb-true, ltb-true}
 use Rattle.std.proofs.lemmas.Option.{option_and_then_some}
@@ -10,15 +10,14 @@ use Rattle.dt_lemmas.proofs.Options.{chosen_ok, at_ok, at_some, some_if}
 use Rattle.dt_lemmas.proofs.Positions.{position_below}
 use Rattle.dt_lex.specs.declared.name.Name.{Name}
 use Rattle.dt_lex.specs.Names.{same_name, IsName}
-use Rattle.dt_lex.specs.Reading.{last_of, ◌>>=◌}
+use Rattle.dt_lex.specs.Reading.{last_of}
 use Rattle.dt_lex.specs.Sections.{may_follow}
 use Rattle.dt_model.specs.ModelData.{ModelData, ActData}
 use Rattle.dt_model.specs.Bounds.{bounds_fit}
-use Rattle.dt_model.specs.Faults.{is_named, names_of, steps, is_read}
+use Rattle.dt_model.specs.Faults.{is_named, steps, is_read}
 use Rattle.dt_model.specs.Positions.{position_of}
 use Rattle.dt_model.proofs.BoundsFit.{bounds_are}
-use Rattle.dt_request.specs.declared.fault.Cause.{Cause}
-use Rattle.dt_request.specs.declared.fault.Cause.TheVariants.{Form, TooMany, Unknown, Twice, OutOfRange}
+use Rattle.dt_request.specs.declared.fault.Cause.TheVariants.{Form, TooMany, Twice}
 use Rattle.dt_request.specs.declared.list.Quantity.{Quantity}
 use Rattle.dt_request.specs.declared.list.Demand.{Demand}
 use Rattle.dt_request.specs.declared.list.Demand.TheVariants as demand
@@ -40,9 +39,10 @@ use Rattle.dt_request.specs.declared.list.Link.{Link}
 use Rattle.dt_request.specs.declared.list.Link.TheVariants.{ShareTable, ShareCell, SharePage, ApartTable, ApartPage}
 use Rattle.dt_request.specs.Lists.{AreNames, IsNode, is_fork, width_of, CanBe, IsDemand, IsWish, access_names, IsSide, IsLink, IsKept, IsList}
 use Rattle.dt_request.specs.Line.{spelled}
-use Rattle.dt_request.specs.Entry.{Declared, sections, standing, is_allowed, node_names, is_step, step_where, quantity_in, side_in, sides_in, pages_in, link_in, known, in_range, can_be, measured_in, demand_in, access_at, last_demands, entry_of, meaning}
+use Rattle.dt_request.specs.Entry.{Declared, sections, standing, is_allowed, node_names, is_step, step_where, quantity_in, side_in, sides_in, pages_in, link_in, can_be, measured_in, demand_in, access_at, last_demands, entry_of, meaning}
 use Rattle.dt_request.specs.Draft.{nothing, with_demand, list_with, added}
 use Rattle.dt_request.proofs.Demands.{length_with, names_with}
+use Rattle.dt_request.proofs.Results.{known_ok, known_then, range_ok, then_ok, chained, mapped, itself}
 use Rattle.dt_request.proofs.Names.{HasNames, spelled_names, names_push}
 
 -- ---- one more demand
@@ -197,24 +197,6 @@ can_is : (o : Option ℕ) (n : ℕ) → option_map_or (λ w. ltb n (2 ^ w)) o fa
 can_is None n e = absurd cc
 can_is (Some w) n e = ltb-true n (2 ^ w) e
 
--- ---- results
-
-known_ok : {X Y : Type 0} (P : Y → Type 0) (o : Option X) (f : X → Y) → ((x : X) → o ≡ Some x → P (f x)) → IfOk (known o >>= λ x. Ok (f x)) P
-known_ok P None f h = tt
-known_ok P (Some x) f h = h x refl
-
-range_ok : {X : Type 0} (P : X → Type 0) (b : Bool) (x : X) → (b ≡ true → P x) → IfOk (in_range b x) P
-range_ok P true x h = h refl
-range_ok P false x h = tt
-
-then_ok : {X Y E : Type 0} (P : X → Type 0) (Q : Y → Type 0) (r : Result X E) (f : X → Y) → IfOk r P → ((x : X) → P x → Q (f x)) → IfOk (r >>= λ x. Ok (f x)) Q
-then_ok P Q (Ok x) f h k = k x h
-then_ok P Q (Err e) f h k = tt
-
-known_then : {X Y : Type 0} (P : Y → Type 0) (o : Option X) (f : X → Result Y Cause) → ((x : X) → o ≡ Some x → IfOk (f x) P) → IfOk (known o >>= f) P
-known_then P None f h = tt
-known_then P (Some x) f h = h x refl
-
 -- ---- demands
 
 abbrev CanBoth : ModelData → ℕ → ℕ → Quantity → Type 0
@@ -238,18 +220,6 @@ demand_is d (asked.Bits of mask value) = then_ok (CanBoth d mask value) (IsDeman
 demand_is d (asked.Span of lo hi) = then_ok (CanBoth d lo hi) (IsDemand d) (measured_in d of lo hi) (λ q. demand.Span q lo hi) (measured_is d of lo hi) (λ q h. h)
 
 -- ---- links
-
-chained : {X Y : Type 0} (P : X → Type 0) (Q : Y → Type 0) (o : Option X) (f : X → Option Y) → IfSome o P → ((x : X) → P x → IfSome (f x) Q) → IfSome (option_and_then f o) Q
-chained P Q None f h k = tt
-chained P Q (Some x) f h k = k x h
-
-itself : {X : Type 0} (o : Option X) → IfSome o (λ x. o ≡ Some x)
-itself None = tt
-itself (Some x) = refl
-
-mapped : {X Y : Type 0} (P : X → Type 0) (Q : Y → Type 0) (o : Option X) (f : X → Y) → IfSome o P → ((x : X) → P x → Q (f x)) → IfSome (option_map f o) Q
-mapped P Q None f h k = tt
-mapped P Q (Some x) f h k = k x h
 
 side_is : (d : ModelData) (so : Requests) (s : AskedSide) → IfSome (side_in d so s) (IsSide d (length so.accesses))
 side_is d so s =

@@ -1,3 +1,4 @@
+pub mod Results
 pub mod Names
 pub mod Demands
 pub mod Entries
@@ -9,3 +10,6 @@ pub mod SpelledRows
 pub mod SpelledLists
 pub mod ReadLists
 pub mod PrintedLists
+pub mod Shapes
+pub mod OnlySpelled
+pub mod OnlyLists

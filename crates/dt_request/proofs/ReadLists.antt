@@ -1,10 +1,10 @@
 -- A text of a list of the model is read as the list.
-use Rattle.std.proofs.Common.{◌≡◌, ℕ, ◌+◌, List, [], ◌∷◌, length, Option, Some, None, Result, Ok, Err, refl, sym, ap, ◌∙◌}
+use Rattle.std.proofs.Common.{◌≡◌, ℕ, ◌+◌, List, [], ◌∷◌, length, Option, Some, Result, Ok, Err, ap, ◌∙◌}
 use Rattle.std.specs.Prelude.{All}
 use Rattle.std.proofs.lemmas.List.Elements.{All-head, All-tail}
 use Rattle.dt_lex.specs.declared.fault.LexFault.{LexFault}
-use Rattle.dt_lex.specs.Text.{lines_of, tokens_of, fault_of}
-use Rattle.dt_lex.specs.Reading.{◌>>=◌, with_place, unless_faulty, row_entry, line_entry, grow, reading_of}
+use Rattle.dt_lex.specs.Text.{lines_of, tokens_of}
+use Rattle.dt_lex.specs.Reading.{◌>>=◌, with_place, unless_faulty, row_entry, line_entry, grow}
 use Rattle.dt_lex.proofs.Loop.{run_from, reading_run}
 use Rattle.dt_lex.proofs.Printed.{run_rows}
 use Rattle.dt_model.specs.ModelData.{ModelData}
@@ -21,7 +21,6 @@ use Rattle.dt_request.specs.Draft.{declared, nothing, added}
 use Rattle.dt_request.specs.Read.{grammar, finished, reading}
 use Rattle.dt_request.specs.Laws.{adds_up}
 use Rattle.dt_request.specs.Spelling.{Row, with_row, rows_in, IsFaultless, IsListText}
-use Rattle.dt_request.proofs.SpelledRows.{spelled_row}
 use Rattle.dt_request.proofs.SpelledLists.{AreRead, state, list_read}
 
 -- ---- rows

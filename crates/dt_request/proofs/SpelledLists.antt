@@ -1,12 +1,12 @@
 -- Lines that spell a list of the model are read as the list.
-use Rattle.std.proofs.Common.{◌≡◌, ℕ, ◌+◌, ◌^◌, ◌<◌, ◌≤◌, Bool, true, false, cond, ◌&&◌, ltb, leb, List, [], ◌∷◌, ◌++◌, length, Option, Some, None, Result, Ok, Err, refl, sym, ap, subst, ◌∙◌, append_assoc, arith, inl, inr, ⊎_elim}
+use Rattle.std.proofs.Common.{◌≡◌, ℕ, ◌+◌, ◌^◌, ◌<◌, ◌≤◌, Bool, true, false, ◌&&◌, ltb, leb, List, [], ◌∷◌, ◌++◌, length, Option, Some, Result, Ok, Err, refl, sym, ap, subst, ◌∙◌, append_assoc, arith, ⊎_elim}
 use Rattle.std.specs.Prelude.{map, codes, slice_get, All}
 use Rattle.std.proofs.lemmas.Bool.{and_from, cond-true, cond-false, lt-ltb, le-leb}
-use Rattle.std.proofs.lemmas.List.{append-nil, length-append, length-map, map-append}
+use Rattle.std.proofs.lemmas.List.{append-nil, length-append, map-append}
 use Rattle.std.proofs.lemmas.List.Elements.{All-head, All-tail}
 use Rattle.dt_lemmas.proofs.Numbers.{passes_from, passes_at}
 use Rattle.dt_lex.specs.declared.name.Name.{Name}
-use Rattle.dt_lex.specs.declared.section.Standing.TheVariants.{In, Behind}
+use Rattle.dt_lex.specs.declared.section.Standing.TheVariants.{In}
 use Rattle.dt_lex.specs.Reading.{last_of, ◌>>=◌}
 use Rattle.dt_lex.specs.Sections.{may_follow}
 use Rattle.dt_lex.proofs.Blocks.{place_after, stays, within}
@@ -14,7 +14,6 @@ use Rattle.dt_lex.proofs.Loop.{last_push}
 use Rattle.dt_model.specs.ModelData.{ModelData}
 use Rattle.dt_model.specs.Bounds.{bounds_fit}
 use Rattle.dt_model.specs.Faults.{IsAccepted, is_named}
-use Rattle.dt_model.specs.Positions.{position_of}
 use Rattle.dt_model.proofs.BoundsFit.{bounds_test}
 use Rattle.dt_request.specs.declared.fault.Cause.{Cause}
 use Rattle.dt_request.specs.declared.fault.Cause.TheVariants.{Form, TooMany, Twice, OutOfRange}
@@ -29,10 +28,9 @@ use Rattle.dt_request.specs.declared.asked.Line.TheVariants as line
 use Rattle.dt_request.specs.declared.entry.Entry.{Entry}
 use Rattle.dt_request.specs.declared.entry.Entry.TheVariants as entry
 use Rattle.dt_request.specs.Lists.{AreNames, IsDemand, IsWish, access_names, IsLink, IsKept, IsList}
-use Rattle.dt_request.specs.Line.{spelled}
-use Rattle.dt_request.specs.Entry.{Declared, sections, standing, is_allowed, known, in_range, demand_in, link_in, access_at, last_demands, entry_of, meaning}
+use Rattle.dt_request.specs.Entry.{Declared, sections, standing, is_allowed, known, demand_in, access_at, last_demands, entry_of, meaning}
 use Rattle.dt_request.specs.Draft.{nothing, with_demand, added}
-use Rattle.dt_request.specs.Spelling.{Row, SpellsKept, SpellsContext, SpellsAccess, SpellsDemand, SpellsLink, SpellEach, SpellWish, SpellWishes, Spell}
+use Rattle.dt_request.specs.Spelling.{Row, SpellsKept, SpellsContext, SpellsDemand, SpellsLink, SpellEach, SpellWish, SpellWishes, Spell}
 use Rattle.dt_request.proofs.Places.{ArePlaced, regs_placed, inputs_placed, nodes_placed, names_placed, fresh_next}
 use Rattle.dt_request.proofs.SpelledRows.{spelled_row, IsPlaced, tables_line, keep_line, context_line, access_line, header_line, second_header_line, end_line, demand_read, link_read}
 

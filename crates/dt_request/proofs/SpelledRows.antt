@@ -1,5 +1,5 @@
 -- A line that is spelled is read as what it spells.
-use Rattle.std.proofs.Common.{◌≡◌, ℕ, ◌^◌, ◌<◌, ◌≤◌, Bool, true, false, cond, ◌&&◌, ltb, leb, List, [], ◌∷◌, ◌++◌, length, Option, Some, None, Result, Ok, Err, refl, sym, ap, ◌∙◌}
+use Rattle.std.proofs.Common.{◌≡◌, ℕ, ◌^◌, ◌<◌, Bool, true, false, cond, ◌&&◌, ltb, leb, List, [], ◌∷◌, ◌++◌, length, Option, Some, None, Result, Ok, Err, refl, ap, ◌∙◌}
 use Rattle.std.specs.Prelude.{codes, slice_get, option_map, IsTrue, IsSomeAnd}
 use Rattle.std.specs.Option.{option_map_or}
 use Rattle.std.proofs.lemmas.Bool.{and_from, cond-true, lt-ltb, le-leb}
@@ -30,9 +30,9 @@ use Rattle.dt_request.specs.declared.asked.AskedLink.TheVariants.{ShareTable, Sh
 use Rattle.dt_request.specs.declared.asked.Line.{Line}
 use Rattle.dt_request.specs.declared.asked.Line.TheVariants as line
 use Rattle.dt_request.specs.Lists.{is_fork, read_width, width_of, CanBe, IsDemand, access_names, IsSide, IsLink}
-use Rattle.dt_request.specs.Line.{Front, name_at, number_at, names_at, numbers_at, lone, named_quantity, quantity_behind, quantity_at, measured_at, branch_of, take_of, ends_of, demand_of, side_at, sides_at, share_of, apart_of, spelled}
+use Rattle.dt_request.specs.Line.{Front, names_at, numbers_at, lone, named_quantity, quantity_behind, quantity_at, measured_at, branch_of, take_of, demand_of, side_at, sides_at, share_of, apart_of, spelled}
 use Rattle.dt_request.specs.Entry.{node_names, is_step, step_where, quantity_in, side_in, sides_in, pages_in, link_in, known, in_range, can_be, measured_in, demand_in}
-use Rattle.dt_request.specs.Spelling.{Row, SpellsName, SpellsNumber, SpellsQuantity, SpellsMeasured, SpellsDemand, SpellsSides, SpellsPages, SpellsLink}
+use Rattle.dt_request.specs.Spelling.{Row, SpellsQuantity, SpellsMeasured, SpellsDemand, SpellsSides, SpellsLink}
 use Rattle.dt_request.proofs.Places.{ArePlaced}
 
 abbrev pub spelled_row : Row → Option Line

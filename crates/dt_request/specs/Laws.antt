@@ -9,10 +9,8 @@ use Rattle.dt_request.specs.declared.list.Demand.{Demand}
 use Rattle.dt_request.specs.declared.list.Link.{Link}
 use Rattle.dt_request.specs.declared.list.KeptRange.{KeptRange}
 use Rattle.dt_request.specs.declared.list.AccessWish.{AccessWish}
-use Rattle.dt_request.specs.declared.list.Requests.{Requests}
 use Rattle.dt_request.specs.declared.entry.Entry.{Entry}
 use Rattle.dt_request.specs.declared.entry.Entry.TheVariants.{Header, Tables, Keep, Context, Access, Demand as Wanted, Link as Linked, End}
-use Rattle.dt_request.specs.Entry.{Declared}
 use Rattle.dt_request.specs.Draft.{place_behind, keeps_in, bounds_in, kept_in, contexts_in, links_in, demands_in, accesses_in, declared, with_demand, added}
 
 -- ---- what the last line of a kind says

@@ -1,5 +1,5 @@
 -- Request lists of a model: each bound, count, name, position, width and code in them is as the text of a list asks.
-use Rattle.std.specs.Prelude.{◌≢◌, ℕ, ◌^◌, ◌<◌, ◌≤◌, Bool, true, false, if◌then◌else◌, List, [], length, map, Option, Some, None, slice_get, IsTrue, IsSomeAnd, All, AllPairs}
+use Rattle.std.specs.Prelude.{◌≢◌, ℕ, ◌^◌, ◌<◌, ◌≤◌, Bool, true, false, if◌then◌else◌, List, length, map, Option, Some, None, slice_get, IsTrue, IsSomeAnd, All, AllPairs}
 use Rattle.dt_lex.specs.declared.name.Name.{Name}
 use Rattle.dt_lex.specs.Names.{IsName}
 use Rattle.dt_model.specs.Limits.{most_code}

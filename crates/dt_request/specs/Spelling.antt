@@ -1,5 +1,5 @@
 -- The text of a list, as its lines spell it, whatever reads them.
-use Rattle.std.specs.Prelude.{◌≡◌, ◌⊎◌, ℕ, true, false, List, [], ◌∷◌, ◌++◌, map, All, Some, None, codes, slice_get}
+use Rattle.std.specs.Prelude.{◌≡◌, ◌⊎◌, ℕ, true, false, List, [], ◌∷◌, ◌++◌, All, Some, None, codes, slice_get}
 use Rattle.dt_lex.specs.declared.name.Name.{Name}
 use Rattle.dt_lex.specs.Names.{name_of}
 use Rattle.dt_lex.specs.Numeral.{number_of}

@@ -1,9 +1,11 @@
-ghost use Rattle.std.specs.Prelude.{◌^◌, ◌-◌, ◌<◌, IfOk, length};
+ghost use Rattle.std.specs.Prelude.{◌^◌, ◌-◌, ◌<◌, IfOk, Ok, length};
 ghost use Rattle.dt_lex.specs.Reading.{Gives};
 ghost use Rattle.dt_model.specs.Accepted.{accepted_data};
+ghost use Rattle.dt_request.specs.declared.list.Requests.{Requests};
 ghost use Rattle.dt_request.specs.Lists.{IsList};
 ghost use Rattle.dt_request.specs.Fault.{is_memory};
 ghost use Rattle.dt_request.specs.Read.{reading};
+ghost use Rattle.dt_request.specs.Spelling.{IsListText};
 
 use crate::draft::Draft;
 use crate::entry::{SECTIONS, meaning};
@@ -119,6 +121,10 @@ pub fn read_requests(
     requires { length bytes.now < 2 ^ 32 - 1 }
     ensures read { Gives is_memory (λ r. r) result (reading (accepted_data model.now) bytes.now) }
     ensures list { IfOk result (IsList (accepted_data model.now)) }
+    // Its lines spell the list, and each list that they spell, however they are written, is this one.
+    ensures text { IfOk result (IsListText (accepted_data model.now) bytes.now) }
+    ensures spelled { (list : Requests) → IsListText (accepted_data model.now) bytes.now list
+        → Gives is_memory (λ r. r) result (Ok list) }
 {
     let known = Known::new(alloc, model)?;
     read_text(&ListReader { alloc, known }, bytes)

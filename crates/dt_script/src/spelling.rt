@@ -7,7 +7,6 @@ fn escaped(c: char) -> char {
     match c {
         'n' => '\n',
         't' => '\t',
-        'n' => '\n',
         'r' => '\r',
         '1' => '\u{1}',
         _ => c,

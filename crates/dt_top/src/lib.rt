@@ -9,8 +9,8 @@
 //! 4096 bytes. A status other than that of a failed read or write comes only where none failed. Where
 //! the shelf tells its files and no read fails, status and text are exactly the ones that words and
 //! files have, unless memory ran out or a write failed. So `replay` says `satisfies` exactly where
-//! the image meets the list, and else names the first claim that doesn't hold; a refused model or
-//! image is named by its first bad line, or the line that the check refuses, and the cause. The calls
+//! the image meets the list, and else names the first claim that doesn't hold; a refused model, list
+//! or image is named by its first bad line, or the line that the check refuses, and the cause. The calls
 //! over bytes (`Job::parse`, `accepted_model`, `request_list`, `solve_reply`, `image_reply`) are exact for
 //! all bytes. `run_in_memory` adds that over files in memory with no failing call no fault comes of
 //! its own.

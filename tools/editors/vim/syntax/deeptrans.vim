@@ -9,7 +9,7 @@ syntax match deeptransConstant "\<\d\+:\(0x\x\+\|\d\+\)\>"
 
 " First words of lines.
 syntax match deeptransHeader "^\s*\(model\|requests\|image\|impossible\|budget\)\>"
-syntax match deeptransLine "^\s*\(word\|address\|reg\|input\|var\|tables\|context\|access\|end\)\>"
+syntax match deeptransLine "^\s*\(word\|address\|reg\|input\|var\|tables\|keep\|context\|access\|end\)\>"
 syntax match deeptransLine "^\s*legal\s\+\(context\|access\)\>"
 syntax match deeptransItem "^\s*\(forward\|backward\|try\|split\|close\|open\|unvisited\)\>"
 

@@ -5,4 +5,4 @@ use Rattle.dt_top.proofs.stages.request_list.Goals as goal
 pub returns-in-Err-clause-refused : goal.returns-in-Err-clause-refused
 returns-in-Err-clause-refused c =
     replies_list (accepted_data c.args.model.now) c.args.bytes.now c.in-Err.fault c.refused.result c.in-Err.ensures.read
-    (rw (c.line-in-Err.ensures, c.word.ensures) at c.refused.ensures)
+    (rw (c.line.ensures, c.word.ensures) at c.refused.ensures)

@@ -1,46 +1,22 @@
-use Rattle.std.proofs.Common.{◌≡◌, ℕ, ◌<◌, List, length, sym, ap, ◌∙◌, subst, arith}
-use Rattle.std.specs.Prelude.{All}
+use Rattle.std.proofs.Common.{◌≡◌, ℕ, ◌<◌, List, length, set, ap, subst, arith}
 use Rattle.std.proofs.lemmas.List.{get_or_read}
 use Rattle.dt_bits.specs.Bits.{width}
 use Rattle.dt_box.specs.Cells.{cell_at}
-use Rattle.dt_box.specs.Trails.{with_change, IsKept}
-use Rattle.dt_box.proofs.Trails.{kept_none, kept_change, change_domains}
+use Rattle.dt_box.specs.Trails.{IsKept}
+use Rattle.dt_box.proofs.Trails.{kept_put}
 use Rattle.dt_box.proofs.cells.Cells.set_bit_kept.Goals as goal
-
-pub returns-in_err-reserve-clause-kept : goal.returns-in_err-reserve-clause-kept
-returns-in_err-reserve-clause-kept g c =
-    subst (IsKept c.args.self.now c.args.trail.now c.args.self.now) (sym (c.reserve.ensures.items ∙ c.trail.view_is)) (kept_none c.args.self.now c.args.trail.now)
-
--- the target's earlier cell is kept
-pub returns-clause-trail : goal.returns-clause-trail
-returns-clause-trail g c =
-    let ops = g.D.Domain.ops in
-    let D = g.row.D.Denot in
-    let terms = c.args.problem.now.terms in
-    let cells = c.self.inside.cells.items in
-    let l : c.args.term < length cells = omega (arith, c.requires.cells.count, c.requires.term, ap (λ (ds : List D). length ds) c.self.view_is) in
-    let old : c.index-old.result.now ≡ cell_at ops c.args.self.now c.args.term =
-    get_or_read cells c.args.term c.index-old.result.now l c.index-old.ensures (ops.full (width 1)) ∙ ap (λ (ds : List D). cell_at ops ds c.args.term) c.self.view_is in
-    c.keep.ensures
-    ∙ ap (λ d. with_change c.set_bit-changed.result c.args.term d c.reserve.new.self.items) old
-    ∙ ap (with_change c.set_bit-changed.result c.args.term (cell_at ops c.args.self.now c.args.term)) (c.reserve.ensures.items ∙ c.trail.view_is)
 
 pub returns-clause-kept : goal.returns-clause-kept
 returns-clause-kept g c =
-    let ops = g.D.Domain.ops in
     let D = g.row.D.Denot in
-    let terms = c.args.problem.now.terms in
-    let k = kept_change ops c.args.self.now c.args.trail.now c.args.term (ops.with_bit (cell_at ops c.args.self.now c.args.term) c.args.bit c.args.value) (ops.full (width 1)) c.set_bit-changed.result
-    (omega (arith, c.requires.cells.count, c.requires.term)) c.set_bit-changed.ensures.change in
-    subst (λ (xs : List (ℕ × D)). IsKept c.args.self.now c.args.trail.now c.set_bit-changed.new.self xs) (sym (returns-clause-trail g c))
-    (subst (λ (ds : List D). IsKept c.args.self.now c.args.trail.now ds (with_change c.set_bit-changed.result c.args.term (cell_at ops c.args.self.now c.args.term) c.args.trail.now)) (sym c.set_bit-changed.ensures.cells) k)
-
-pub invariant_of-trail-2 : goal.invariant_of-trail-2
-invariant_of-trail-2 g c =
     let ops = g.D.Domain.ops in
-    let D = g.row.D.Denot in
-    let terms = c.args.problem.now.terms in
-    subst (λ (xs : List (ℕ × D)). All (λ (change : ℕ × D). ops.IsDomain change.1) xs) (sym (returns-clause-trail g c))
-    (change_domains ops c.args.trail.now c.args.term (cell_at ops c.args.self.now c.args.term) c.set_bit-changed.result
-    (subst (λ (xs : List (ℕ × D)). All (λ (change : ℕ × D). ops.IsDomain change.1) xs) c.trail.view_is c.trail.invariant)
-    (c.requires.cells.domains c.args.term c.requires.term))
+    let cells = c.self.inside.cells.items in
+    let t = c.args.term in
+    let new = c.put_kept.new.cell in
+    let longer = c.put_kept.new.changes.items in
+    let within : t < length cells = omega (arith, c.requires.cells.count, c.requires.term, ap (λ (ds : List D). length ds) c.self.view_is) in
+    let old : c.index_mut-cell.result.now ≡ cell_at ops cells t = get_or_read cells t _ within c.index_mut-cell.ensures.value _ in
+    let k = kept_put ops cells c.trail.inside.changes.items longer t new c.index_mut-cell.result.now (ops.full (width 1)) c.put_kept.result within old
+    c.put_kept.ensures.change c.put_kept.ensures.changes c.put_kept.ensures.err in
+    subst (λ (ds : List D). IsKept ds c.args.trail.now (set cells t new) longer) c.self.view_is
+    (subst (λ (xs : List (ℕ × D)). IsKept cells xs (set cells t new) longer) c.trail.view_is k)
