@@ -27,8 +27,8 @@ use Rattle.dt_box.proofs.Knowledge.{step_keeps}
 use Rattle.dt_box.proofs.Trails.{kept_none, kept_more}
 use Rattle.dt_box.proofs.Watching.{far_tells, users_at_term}
 use Rattle.dt_log.specs.declared.line.Line.{Line}
-use Rattle.dt_check.specs.Unknown.{unknown_of}
-use Rattle.dt_check.proofs.Counting.{Keeps, unknown_lt}
+use Rattle.dt_box.specs.Unknown.{unknown_of}
+use Rattle.dt_box.proofs.Unknown.{Keeps, unknown_lt}
 use Rattle.dt_propagate.specs.Settling.{near_nodes, is_queued, IsQueued, IsQueuedBut, step_line, Leads, IsLogged, IsProgress, cost}
 
 -- the users of a term are those of the watches
@@ -98,8 +98,8 @@ module _ (terms : List Term) (watches : List (List ℕ)) (w : watches ≡ watche
       let n = origin_in terms s h in
       let z : 0 + origin s ≡ origin s = omega arith in
       or_right (eqb t (origin s)) _ (subst (λ ns. is_queued ns (origin s) ≡ true) (sym (users_are terms watches w t l))
-          (any_filter (λ m. uses (term_at terms m) t) (range_with_len 0 (length terms)) (origin s) f
-          (any_at (range_with_len 0 (length terms)) (origin s) (origin s) (omega (arith, length-range_with_len 0 (length terms))) (get_or-range_with_len 0 (length terms) (origin s) 0 n ∙ z)))))
+      (any_filter (λ m. uses (term_at terms m) t) (range_with_len 0 (length terms)) (origin s) f
+      (any_at (range_with_len 0 (length terms)) (origin s) (origin s) (omega (arith, length-range_with_len 0 (length terms))) (get_or-range_with_len 0 (length terms) (origin s) 0 n ∙ z)))))
       (or_cases (eqb (origin s) t) _ e)
 
   near_most : (t : ℕ) → t < length terms → length (near_nodes watches t) ≤ length terms + 1
@@ -223,8 +223,8 @@ module _ (D : Type 0) (ops : DomainOps D) (terms : List Term) where
     held_step s cells new h i n e f =
         let l = (step_narrows D ops laws terms right s cells h i).within in
         subst (HasNoEmpty ops) (sym f) (λ t m.
-            at_set D ops laws terms right cells (target terms s) t (narrowed ops terms s cells) (λ d. ops.is_empty d ≡ false) (omega (arith, h.count)) (λ _. e)
-            (λ _. n t (omega (arith, length-set cells (target terms s) (narrowed ops terms s cells)))))
+        at_set D ops laws terms right cells (target terms s) t (narrowed ops terms s cells) (λ d. ops.is_empty d ≡ false) (omega (arith, h.count)) (λ _. e)
+        (λ _. n t (omega (arith, length-set cells (target terms s) (narrowed ops terms s cells)))))
 
     -- where it doesn't, the target's cell is empty
     pub empty_step : (s : Step) (cells new : List D) → AreCells ops terms cells → IsStep terms s → ops.is_empty (narrowed ops terms s cells) ≡ true → new ≡ after_step ops terms s cells → (target terms s < length terms) × (ops.is_empty (cell_at ops new (target terms s)) ≡ true)
@@ -255,7 +255,6 @@ module _ (D : Type 0) (ops : DomainOps D) (terms : List Term) where
       where
         users_in : (t : ℕ) → All (λ n. n < length terms) (users_of terms t)
         users_in t = All-filter (λ m. uses (term_at terms m) t) (λ n. n < length terms) (range_with_len 0 (length terms)) (λ k d m. rw (get_or-range_with_len 0 (length terms) k d (omega (arith, length-range_with_len 0 (length terms)))) (omega (arith, length-range_with_len 0 (length terms))))
-
 
 -- ---- the queue of a whole settling
 any_take : (f : ℕ → Bool) (xs : List ℕ) (k d : ℕ) → k < length xs → list_any f (take (k + 1) xs) ≡ true → (list_any f (take k xs) ≡ true) ⊎ (f (get_or xs k d) ≡ true)

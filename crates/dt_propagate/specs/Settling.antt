@@ -11,7 +11,7 @@ use Rattle.dt_box.specs.Stillness.{HasNoEmpty, tells, origin}
 use Rattle.dt_box.specs.Trails.{IsKept}
 use Rattle.dt_log.specs.declared.line.Line.{Line}
 use Rattle.dt_log.specs.declared.line.Line.TheVariants.{Forward, Backward}
-use Rattle.dt_check.specs.Unknown.{unknown_of}
+use Rattle.dt_box.specs.Unknown.{unknown_of}
 use Rattle.dt_propagate.specs.declared.settling.Settled.{Settled}
 use Rattle.dt_propagate.specs.declared.settling.Settled.TheVariants.{Quiet, Empty}
 

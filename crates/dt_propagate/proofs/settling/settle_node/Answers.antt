@@ -4,7 +4,7 @@ use Rattle.dt_box.specs.Steps.{after_step, target, narrowed}
 use Rattle.std.proofs.Common.{suc}
 use Rattle.std.specs.List.{range_with_len}
 use Rattle.dt_box.specs.Cells.{cell_at}
-use Rattle.dt_check.specs.Unknown.{unknown_of}
+use Rattle.dt_box.specs.Unknown.{unknown_of}
 use Rattle.dt_propagate.specs.Settling.{IsProgress, IsQueuedBut, near_nodes}
 use Rattle.dt_propagate.proofs.Queues.{progress_none, progress_more, held_step, empty_step, target_in, cost_step, nodes_step, queued_step, queued_done, unknown_step, count_is}
 use Rattle.dt_propagate.proofs.settling.settle_node.Goals as goal
@@ -73,7 +73,7 @@ loop-step-preserved g c =
     let e = sym c.in_ok-empty.ensures.empty ∙ c.if-empty.false in
     let f = c.in_ok-empty.ensures.cells in
     let q : c.push_near.new.queue.items ≡ c.loop-step.queue.items ++ near_nodes c.args.watches.now (target terms step) =
-        c.in_ok-push_near.ensures ∙ ap (λ t. c.loop-step.queue.items ++ near_nodes c.args.watches.now t) c.target-target.ensures in
+    c.in_ok-push_near.ensures ∙ ap (λ t. c.loop-step.queue.items ++ near_nodes c.args.watches.now t) c.target-target.ensures in
     let l = target_in D ops terms laws right step cells is c.in-Some.ensures.0 in
     let k = cost_step D ops terms laws right c.args.watches.now c.requires.watches step cells new c.loop-step.queue.items c.push_near.new.queue.items is c.in-Some.ensures.0 c.in-Some.ensures.1 e f q in
     let i = c.loop-step.invariant.cost in

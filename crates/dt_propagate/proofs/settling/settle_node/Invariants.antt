@@ -2,7 +2,7 @@ use Rattle.std.proofs.Common.{◌≡◌, ◌<◌, ◌≤◌, ℕ, length, All}
 use Rattle.std.specs.List.{range_with_len}
 use Rattle.dt_terms.specs.Terms.{AreTerms}
 use Rattle.dt_box.specs.Stillness.{HasNoEmpty}
-use Rattle.dt_check.specs.Unknown.{unknown_of}
+use Rattle.dt_box.specs.Unknown.{unknown_of}
 use Rattle.dt_propagate.specs.Settling.{IsQueuedBut, IsProgress, cost}
 use Rattle.dt_propagate.proofs.settling.settle_node.Given as goal
 
