@@ -1,4 +1,4 @@
--- Settling: what is queued, and what the steps that were taken lead to.
+-- Settling: what the steps that were taken lead to.
 use Rattle.std.specs.Prelude.{◌≡◌, ℕ, ◌+◌, ◌*◌, ◌<◌, ◌==◌, Bool, true, false, ◌||◌, List, [], ◌∷◌, ◌++◌, length, slice_index_or}
 use Rattle.std.specs.List.{list_any, range_with_len}
 use Rattle.dt_domain.specs.Domain.{DomainOps}
@@ -15,22 +15,7 @@ use Rattle.dt_box.specs.Unknown.{unknown_of}
 use Rattle.dt_propagate.specs.declared.settling.Settled.{Settled}
 use Rattle.dt_propagate.specs.declared.settling.Settled.TheVariants.{Quiet, Empty}
 
--- the term itself, and the nodes that use it
-abbrev pub near_nodes : List (List ℕ) → ℕ → List ℕ
-near_nodes watches t = t ∷ slice_index_or watches t []
-
-abbrev pub is_queued : List ℕ → ℕ → Bool
-is_queued queue n = list_any (λ m. m == n) queue
-
--- each step that tells something new goes from a node in the queue
-abbrev pub IsQueued : {D : Type 0} → DomainOps D → List Term → List D → List ℕ → Type 0
-IsQueued ops terms cells queue = (s : Step) → IsStep terms s → tells ops terms s cells ≡ true → is_queued queue (origin s) ≡ true
-
--- or from this node
-abbrev pub IsQueuedBut : {D : Type 0} → DomainOps D → List Term → List D → List ℕ → ℕ → Type 0
-IsQueuedBut ops terms cells queue node =
-    (s : Step) → IsStep terms s → tells ops terms s cells ≡ true → (node == origin s || is_queued queue (origin s)) ≡ true
-
+-- the item of a log for a step
 abbrev pub step_line : Step → Line
 step_line (steps.Forward t) = Forward t
 step_line (steps.Backward p k) = Backward p k
@@ -57,7 +42,3 @@ pub record IsProgress {D : Type 0} (ops : DomainOps D) (terms : List Term) (old 
 abbrev pub IsEnd : {D : Type 0} → DomainOps D → List Term → Settled → List D → Type 0 → Type 0
 IsEnd ops terms Quiet cells P = HasNoEmpty ops cells × P
 IsEnd ops terms (Empty t) cells P = (t < length terms) × (ops.is_empty (cell_at ops cells t) ≡ true)
-
--- what bounds the work that is left: a step makes a bit known and queues no more nodes than there are
-abbrev pub cost : {D : Type 0} → DomainOps D → List Term → List D → List ℕ → ℕ
-cost ops terms cells queue = (length terms + 1) * unknown_of ops terms cells (range_with_len 0 (length terms)) + length queue

@@ -1,6 +1,10 @@
 //! Settling: steps are taken until none tells something new.
 #![tactic(auto)]
 
+mod bits;
+mod marks;
+mod passing;
 mod settling;
+mod taking;
 
-pub use settling::{Settled, settle_from};
+pub use settling::{Settled, settle, settle_from, settle_with};

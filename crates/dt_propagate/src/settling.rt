@@ -1,14 +1,18 @@
-ghost use Rattle.std.specs.Prelude.{◌≡◌, ◌<◌, ◌≤◌, ◌+◌, ◌*◌, ◌++◌, ℕ, length, IfOk, IfSome, OnOk, All, MatchOption};
+ghost use Rattle.std.specs.Prelude.{◌≡◌, ◌<◌, ◌*◌, length, IfOk, All};
 ghost use Rattle.dt_box.specs.Cells.{AreCells};
-ghost use Rattle.dt_box.specs.Steps.{IsStep, target, narrowed, after_step};
 ghost use Rattle.dt_box.specs.Stillness.{HasNoEmpty, IsSettled};
 ghost use Rattle.dt_box.specs.Watching.{Covers, watches_of};
-ghost use Rattle.dt_propagate.specs.Settling.{near_nodes, IsQueued, IsQueuedBut, IsProgress, IsEnd, step_line, cost};
+ghost use Rattle.dt_propagate.specs.Marks.{HasRoom};
+ghost use Rattle.dt_propagate.specs.Passing.{AreMarked};
+ghost use Rattle.dt_propagate.specs.Settling.{IsLogged, IsProgress, IsEnd};
 
+use crate::marks::Marks;
+use crate::passing::pass;
+use crate::taking::Took;
 use dt_bits::NoMemory;
-use dt_box::{Cells, Changed, Step, Trail, Watches};
-use dt_domain::Domain;
-use dt_log::{Draft, Line};
+use dt_box::{Cells, Trail, Watches};
+use dt_domain::{Deciding, Domain};
+use dt_log::Draft;
 use dt_terms::Problem;
 use std::alloc::Global;
 
@@ -21,89 +25,39 @@ pub enum Settled {
     Empty(u32),
 }
 
-// The item of a log for a step.
-fn line_of(step: Step) -> Line
-    ensures { result ≡ step_line step }
-{
-    match step {
-        Step::Forward { term } => Line::Forward { term },
-        Step::Backward { parent, place } => Line::Backward { parent, place },
-    }
-}
+// How often cells may be narrowed without a further bit, in one settling, beside what is given for
+// each term where all are tried.
+const NARROWINGS: u64 = 4096;
 
-// Queues the nodes near a term.
-fn push_near(watches: &Watches, queue: &mut Vec<u32>, term: u32) -> Result<(), NoMemory>
-    requires { term < length watches.now }
-    ensures { OnOk result (queue.new.items ≡ queue.old.items ++ near_nodes watches.now term) }
-{
-    queue.push(term)?;
-    queue.extend_from_slice(watches.users(term))?;
-    Ok(())
-}
-
-// Takes a step, and logs it; tells whether its target's cell is empty. Without memory nothing is
-// changed.
-fn take_step<D: Domain>(
-    problem: &Problem,
-    cells: &mut Cells<D>,
-    trail: &mut Trail<D>,
-    draft: &mut Draft,
-    step: Step,
-) -> Result<bool, NoMemory>
-    requires cells { AreCells D.ops problem.now.terms cells.old }
-    requires step { IsStep problem.now.terms step }
-    ensures cells { OnOk result (cells.new ≡ after_step D.ops problem.now.terms step cells.old) }
-    ensures empty { IfOk result (λ empty. empty ≡ D.ops.is_empty (narrowed D.ops problem.now.terms step cells.old)) }
-    ensures progress { IsProgress D.ops problem.now.terms cells.old trail.old draft.old.lines cells.new trail.new draft.new.lines }
-{
-    draft.push(line_of(step))?;
-    match cells.apply_kept(problem, step, trail) {
-        Err(e) => {
-            draft.pop();
-            Err(e)
-        }
-        Ok(Changed::Empty) => Ok(true),
-        Ok(Changed::No) => Ok(false),
-        Ok(Changed::Narrowed) => Ok(false),
-        Ok(Changed::BitKnown) => Ok(false),
-    }
-}
-
-// Takes steps from a node until none of them tells something new.
-fn settle_node<D: Domain>(
+// Tries marked steps until none is marked, or a cell is empty.
+fn settle_marked<D: Domain>(
     problem: &Problem,
     watches: &Watches,
     cells: &mut Cells<D>,
     trail: &mut Trail<D>,
     draft: &mut Draft,
-    queue: &mut Vec<u32>,
-    node: u32,
+    marks: &mut Marks,
 ) -> Result<Settled, NoMemory>
     requires cells { AreCells D.ops problem.now.terms cells.old }
     requires watches { watches.now ≡ watches_of problem.now.terms }
     requires held { HasNoEmpty D.ops cells.old }
-    requires queued { IsQueuedBut D.ops problem.now.terms cells.old queue.old.items node }
-    requires node { node < length problem.now.terms }
-    requires nodes { All (λ n. n < length problem.now.terms) queue.old.items }
+    requires room { HasRoom (2 * length problem.now.terms) marks.old.bits.words.items }
+    requires marked { AreMarked D.ops problem.now.terms cells.old marks.old.bits.words.items }
     ensures progress { IsProgress D.ops problem.now.terms cells.old trail.old draft.old.lines cells.new trail.new draft.new.lines }
-    ensures queued { IfOk result (λ end. IsEnd D.ops problem.now.terms end cells.new (IsQueued D.ops problem.now.terms cells.new queue.new.items)) }
-    ensures nodes { OnOk result (All (λ n. n < length problem.now.terms) queue.new.items) }
-    ensures cost { IfOk result (λ end. IsEnd D.ops problem.now.terms end cells.new (cost D.ops problem.now.terms cells.new queue.new.items ≤ cost D.ops problem.now.terms cells.old queue.old.items)) }
+    ensures end { IfOk result (λ end. IsEnd D.ops problem.now.terms end cells.new (IsSettled D.ops problem.now.terms cells.new)) }
 {
-    let _ = &problem.terms;
-    while let Some(step) = cells.unsettled_at(problem, node) {
-        let target = step.target(problem);
-        let empty = take_step(problem, cells, trail, draft, step)?;
-        if empty {
-            return Ok(Settled::Empty(target));
+    loop {
+        match pass(problem, watches, cells, trail, draft, marks)? {
+            Took::Nothing => return Ok(Settled::Quiet),
+            Took::Change => {}
+            Took::Empty(term) => return Ok(Settled::Empty(term)),
         }
-        push_near(watches, queue, target)?;
     }
-    Ok(Settled::Quiet)
 }
 
-/// Takes steps until the cells are settled or one is empty.
-pub fn settle_from<D: Domain>(
+/// Takes steps until the cells are settled or one is empty. Each step that would tell something new
+/// has to be near one of the terms that changed.
+pub fn settle_from<D: Deciding>(
     alloc: Global,
     problem: &Problem,
     watches: &Watches,
@@ -121,15 +75,49 @@ pub fn settle_from<D: Domain>(
     ensures end { IfOk result (λ end. IsEnd D.ops problem.now.terms end cells.new (IsSettled D.ops problem.now.terms cells.new)) }
 {
     let _ = &problem.terms;
-    let mut queue = Vec::new(alloc);
+    let mut marks = Marks::new(alloc, problem.terms.len(), 0, NARROWINGS)?;
     for term in changed {
-        push_near(watches, &mut queue, *term)?;
+        marks.mark_near(problem, watches, *term);
     }
-    while let Some(node) = queue.pop() {
-        match settle_node(problem, watches, cells, trail, draft, &mut queue, node)? {
-            Settled::Quiet => {}
-            Settled::Empty(term) => return Ok(Settled::Empty(term)),
-        }
-    }
-    Ok(Settled::Quiet)
+    settle_marked(problem, watches, cells, trail, draft, &mut marks)
+}
+
+/// Settles cells as `settle` does, with the watches of the problem that the caller has.
+pub fn settle_with<D: Deciding>(
+    alloc: Global,
+    problem: &Problem,
+    watches: &Watches,
+    cells: &mut Cells<D>,
+    draft: &mut Draft,
+) -> Result<Settled, NoMemory>
+    requires cells { AreCells D.ops problem.now.terms cells.old }
+    requires watches { watches.now ≡ watches_of problem.now.terms }
+    requires held { HasNoEmpty D.ops cells.old }
+    ensures cells { AreCells D.ops problem.now.terms cells.new }
+    ensures logged { IsLogged D.ops problem.now.terms cells.old draft.old.lines cells.new draft.new.lines }
+    ensures end { IfOk result (λ end. IsEnd D.ops problem.now.terms end cells.new (IsSettled D.ops problem.now.terms cells.new)) }
+{
+    let _ = &problem.terms;
+    let count = problem.terms.len();
+    let mut marks = Marks::new(alloc, count, u64::MAX, NARROWINGS + count as u64)?;
+    let mut trail = Trail::new(alloc)?;
+    settle_marked(problem, watches, cells, &mut trail, draft, &mut marks)
+}
+
+/// Takes steps until the cells are settled or one is empty: first all steps from operands to nodes,
+/// in rising order, and then those that may tell something new.
+pub fn settle<D: Deciding>(
+    alloc: Global,
+    problem: &Problem,
+    cells: &mut Cells<D>,
+    draft: &mut Draft,
+) -> Result<Settled, NoMemory>
+    requires cells { AreCells D.ops problem.now.terms cells.old }
+    requires held { HasNoEmpty D.ops cells.old }
+    ensures cells { AreCells D.ops problem.now.terms cells.new }
+    ensures logged { IsLogged D.ops problem.now.terms cells.old draft.old.lines cells.new draft.new.lines }
+    ensures end { IfOk result (λ end. IsEnd D.ops problem.now.terms end cells.new (IsSettled D.ops problem.now.terms cells.new)) }
+{
+    let watches = Watches::new(alloc, problem)?;
+    settle_with(alloc, problem, &watches, cells, draft)
 }

@@ -1,0 +1,121 @@
+-- Sets of positions: what adding and taking away does, and how the next one is found.
+use Rattle.std.proofs.Common.{◌≡◌, ◌≢◌, ℕ, zero, suc, ◌+◌, ◌-◌, ◌*◌, ◌/◌, ◌%◌, ◌^◌, ◌<◌, ◌≤◌, Bool, true, false, not, ◌&&◌, ◌||◌, eqb, List, [], ◌∷◌, length, get_or, set, refl, sym, ap, ◌∙◌, subst, inl, inr, ◌⊎◌, ⊎_elim, arith, get_or-set_same, get_or-set_other}
+use Rattle.std.specs.Int.{bit_not, bit_at}
+use Rattle.std.specs.Int.RustNames.{bit_or}
+use Rattle.std.proofs.lemmas.Bool.{cases_eq, cases_lt, eq-eqb, eqb-true, or_right}
+use Rattle.std.proofs.lemmas.List.{get_or_past}
+use Rattle.std.proofs.lemmas.Nat.Bits.{bit_at_set_same, bit_at_set_other, bit_at_clear_same, bit_at_clear_other, bit_at-trailing_zeros}
+use Rattle.std.specs.Int.{trailing_zeros}
+use lib.Bits.{bit_and}
+use Rattle.std.proofs.Common.{w64}
+use Rattle.dt_bits.specs.Bits.{bit}
+use Rattle.dt_bits.proofs.BitLemmas.{bit_is, bit_of_shr, bit_of_zero, bit_above, from_at}
+use Rattle.dt_propagate.specs.Marks.{is_marked, Grows}
+
+-- where rest is 0, no bit from k on is 1
+pub next_none : (word k rest : ℕ) → rest ≡ word / 2 ^ k → rest ≡ 0 → (i : ℕ) → k ≤ i → bit word i ≡ false
+next_none word k rest e z i l =
+    let s : k + (i - k) ≡ i = omega arith in
+    sym (ap (bit word) s) ∙ sym (bit_of_shr word k (i - k)) ∙ ap (λ n. bit n (i - k)) (sym e ∙ z) ∙ bit_of_zero (i - k)
+
+-- else the lowest one of them is found
+pub next_some : (word k rest t : ℕ) → word < 2 ^ 64 → rest < 2 ^ 64 → rest ≡ word / 2 ^ k → rest ≢ 0 → t ≡ k + trailing_zeros w64 rest
+    → (k ≤ t) × (t < 64) × (bit word t ≡ true) × ((i : ℕ) → k ≤ i → i < t → bit word i ≡ false)
+next_some word k rest t l r e z f =
+    let n : 0 < rest = omega arith in
+    let q = bit_at-trailing_zeros w64 rest n r in
+    let z = trailing_zeros w64 rest in
+    let is : bit word t ≡ true = ap (bit word) f ∙ sym (bit_of_shr word k z) ∙ ap (λ n. bit n z) (sym e) ∙ bit_is rest z 1 q.1 in (
+      omega arith,
+      ⊎_elim (λ (m : t < 64). m) (λ (m : 64 ≤ t). absurd (grind (arith, bit_above word 64 t l m))) (cases_lt t 64),
+      is,
+      λ i a b.
+          let s : k + (i - k) ≡ i = omega arith in
+          sym (ap (bit word) s) ∙ sym (bit_of_shr word k (i - k)) ∙ ap (λ n. bit n (i - k)) (sym e) ∙ bit_is rest (i - k) 0 (q.2 (i - k) (omega arith)),
+    )
+
+module _ (words : List ℕ) (at word : ℕ) (l : at / 64 < length words) where
+  other_word : (i : ℕ) → (i / 64 ≡ at / 64 → ⊥) → is_marked (set words (at / 64) word) i ≡ is_marked words i
+  other_word i n = ap (λ w. bit w (i % 64)) (get_or-set_other words (at / 64) (i / 64) word 0 n)
+
+  same_word : (i : ℕ) → i / 64 ≡ at / 64 → is_marked (set words (at / 64) word) i ≡ bit word (i % 64)
+  same_word i e = ap (λ w. bit w (i % 64)) (ap (λ k. get_or (set words (at / 64) word) k 0) e ∙ get_or-set_same words (at / 64) word 0 l)
+
+  not_at : (i : ℕ) → (i ≡ at → ⊥) → eqb i at ≡ false
+  not_at i n = ⊎_elim (λ (e : eqb i at ≡ true). absurd (n (eqb-true i at e))) (λ (e : eqb i at ≡ false). e) (cases_Bool (eqb i at))
+    where
+      cases_Bool : (b : Bool) → (b ≡ true) ⊎ (b ≡ false)
+      cases_Bool true = inl refl
+      cases_Bool false = inr refl
+
+  pub mark_is : word ≡ bit_or (get_or words (at / 64) 0) (1 * 2 ^ (at % 64) % 2 ^ 64) → (i : ℕ) → is_marked (set words (at / 64) word) i ≡ (eqb i at || is_marked words i)
+  mark_is e i =
+      ⊎_elim
+      (λ (f : i ≡ at).
+      same_word i (ap (λ n. n / 64) f) ∙ ap (bit word) (ap (λ n. n % 64) f) ∙ ap (λ w. bit w (at % 64)) e ∙ bit_is _ (at % 64) 1 (bit_at_set_same w64 (get_or words (at / 64) 0) (at % 64) (omega arith))
+      ∙ sym (ap (λ b. b || is_marked words i) (eq-eqb i at f)))
+      (λ (f : i ≡ at → ⊥).
+      ⊎_elim
+      (λ (g : i / 64 ≡ at / 64).
+      let n : i % 64 ≢ at % 64 = λ h. f (omega arith) in
+      same_word i g ∙ ap (λ w. bit w (i % 64)) e
+      ∙ from_at _ (get_or words (at / 64) 0) (i % 64) (i % 64) (bit_at_set_other w64 (get_or words (at / 64) 0) (at % 64) (omega arith) (i % 64) n)
+      ∙ ap (λ k. bit (get_or words k 0) (i % 64)) (sym g) ∙ sym (ap (λ b. b || is_marked words i) (not_at i f)))
+      (λ (g : i / 64 ≡ at / 64 → ⊥). other_word i g ∙ sym (ap (λ b. b || is_marked words i) (not_at i f)))
+      (cases_eq (i / 64) (at / 64)))
+      (cases_eq i at)
+
+  pub unmark_is : word ≡ bit_and (get_or words (at / 64) 0) (bit_not w64 (1 * 2 ^ (at % 64) % 2 ^ 64)) → (i : ℕ) → is_marked (set words (at / 64) word) i ≡ (not (eqb i at) && is_marked words i)
+  unmark_is e i =
+      ⊎_elim
+      (λ (f : i ≡ at).
+      same_word i (ap (λ n. n / 64) f) ∙ ap (bit word) (ap (λ n. n % 64) f) ∙ ap (λ w. bit w (at % 64)) e ∙ bit_is _ (at % 64) 0 (bit_at_clear_same w64 (get_or words (at / 64) 0) (at % 64) (omega arith))
+      ∙ sym (ap (λ b. not b && is_marked words i) (eq-eqb i at f)))
+      (λ (f : i ≡ at → ⊥).
+      ⊎_elim
+      (λ (g : i / 64 ≡ at / 64).
+      let n : i % 64 ≢ at % 64 = λ h. f (omega arith) in
+      same_word i g ∙ ap (λ w. bit w (i % 64)) e
+      ∙ from_at _ (get_or words (at / 64) 0) (i % 64) (i % 64) (bit_at_clear_other w64 (get_or words (at / 64) 0) (at % 64) (omega arith) (i % 64) (omega arith) n)
+      ∙ ap (λ k. bit (get_or words k 0) (i % 64)) (sym g) ∙ sym (ap (λ b. not b && is_marked words i) (not_at i f)))
+      (λ (g : i / 64 ≡ at / 64 → ⊥). other_word i g ∙ sym (ap (λ b. not b && is_marked words i) (not_at i f)))
+      (cases_eq (i / 64) (at / 64)))
+      (cases_eq i at)
+
+-- past the last word no position is in the set
+pub past_words : (words : List ℕ) (i : ℕ) → length words * 64 ≤ i → is_marked words i ≡ false
+past_words words i l = ap (λ w. bit w (i % 64)) (get_or_past words (i / 64) 0 (omega arith)) ∙ bit_of_zero (i % 64)
+
+-- a position in a word
+pub in_word : (words : List ℕ) (k i b : ℕ) → i ≡ k * 64 + b → b < 64 → is_marked words i ≡ bit (get_or words k 0) b
+in_word words k i b e l =
+    let q : i / 64 ≡ k = omega arith in
+    let r : i % 64 ≡ b = omega arith in
+    ap (λ n. bit (get_or words n 0) (i % 64)) q ∙ ap (bit (get_or words k 0)) r
+
+pub grows_none : (words : List ℕ) → Grows words words
+grows_none words = record { each = λ i h. h }
+
+pub grows_more : (a b c : List ℕ) → Grows a b → Grows b c → Grows a c
+grows_more a b c g h = record { each = λ i e. h.each i (g.each i e) }
+
+-- adding a position takes none away
+pub grows_mark : (old new : List ℕ) (at : ℕ) → ((i : ℕ) → is_marked new i ≡ (eqb i at || is_marked old i)) → Grows old new
+grows_mark old new at h = record { each = λ i e. h i ∙ or_right (eqb i at) (is_marked old i) e }
+
+pub marked_at : (old new : List ℕ) (at : ℕ) → ((i : ℕ) → is_marked new i ≡ (eqb i at || is_marked old i)) → is_marked new at ≡ true
+marked_at old new at h = h at ∙ ap (λ b. b || is_marked old at) (eq-eqb at at refl)
+
+-- after a position was taken away, none is left up to it
+pub unmarked_none : (words new : List ℕ) (from at i : ℕ) → ((k : ℕ) → is_marked new k ≡ (not (eqb k at) && is_marked words k)) → (i < from → is_marked words i ≡ false)
+    → (from ≤ i → i < at → is_marked words i ≡ false) → i ≤ at → is_marked new i ≡ false
+unmarked_none words new from at i u before next l = u i ∙ by_place (cases_eq i at) (cases_lt i from)
+  where
+    none : (b m : Bool) → m ≡ false → (b && m) ≡ false
+    none true m e = e
+    none false m e = refl
+
+    by_place : (i ≡ at) ⊎ (i ≡ at → ⊥) → (i < from) ⊎ (from ≤ i) → (not (eqb i at) && is_marked words i) ≡ false
+    by_place (inl e) k = ap (λ b. not b && is_marked words i) (eq-eqb i at e)
+    by_place (inr n) (inl k) = none (not (eqb i at)) (is_marked words i) (before k)
+    by_place (inr n) (inr k) = none (not (eqb i at)) (is_marked words i) (next k (omega arith))

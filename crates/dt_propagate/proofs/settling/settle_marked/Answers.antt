@@ -1,0 +1,38 @@
+use Rattle.std.proofs.Common.{◌≡◌, ℕ, length, List, refl, sym, subst}
+use Rattle.dt_propagate.specs.Passing.{IsPassed}
+use Rattle.dt_propagate.proofs.Progress.{progress_none, progress_more}
+use Rattle.dt_propagate.proofs.settling.settle_marked.Goals as goal
+
+pub loop-term-init : goal.loop-term-init
+loop-term-init g c = record {
+  progress = progress_none g.row.D.Denot g.D.Domain.ops c.args.problem.now.terms c.args.cells.now c.args.trail.now c.args.draft.now.lines c.requires.cells;
+  held = c.requires.held;
+  room = c.requires.room;
+  marked = c.requires.marked;
+}
+
+pub returns-in_err-pass-clause-progress : goal.returns-in_err-pass-clause-progress
+returns-in_err-pass-clause-progress g c =
+    progress_more g.row.D.Denot g.D.Domain.ops c.args.problem.now.terms c.args.cells.now c.args.trail.now c.args.draft.now.lines c.loop-term.cells c.loop-term.trail c.loop-term.draft.lines c.pass.new.cells c.pass.new.trail c.pass.new.draft.lines
+    c.requires.cells c.loop-term.invariant.progress c.pass.ensures.progress
+
+pub returns-in-Nothing-clause-progress : goal.returns-in-Nothing-clause-progress
+returns-in-Nothing-clause-progress g c =
+    progress_more g.row.D.Denot g.D.Domain.ops c.args.problem.now.terms c.args.cells.now c.args.trail.now c.args.draft.now.lines c.loop-term.cells c.loop-term.trail c.loop-term.draft.lines c.pass.new.cells c.pass.new.trail c.pass.new.draft.lines
+    c.requires.cells c.loop-term.invariant.progress c.pass.ensures.progress
+
+pub returns-in-Empty-clause-progress : goal.returns-in-Empty-clause-progress
+returns-in-Empty-clause-progress g c =
+    progress_more g.row.D.Denot g.D.Domain.ops c.args.problem.now.terms c.args.cells.now c.args.trail.now c.args.draft.now.lines c.loop-term.cells c.loop-term.trail c.loop-term.draft.lines c.pass.new.cells c.pass.new.trail c.pass.new.draft.lines
+    c.requires.cells c.loop-term.invariant.progress c.pass.ensures.progress
+
+pub loop-term-preserved : goal.loop-term-preserved
+loop-term-preserved g c =
+    let k = subst (λ t. IsPassed g.D.Domain.ops c.args.problem.now.terms c.loop-term.cells c.loop-term.marks t c.pass.new.cells c.pass.new.marks) c.in-Change.is c.in_ok-pass.ensures.took in
+    record {
+      progress = progress_more g.row.D.Denot g.D.Domain.ops c.args.problem.now.terms c.args.cells.now c.args.trail.now c.args.draft.now.lines c.loop-term.cells c.loop-term.trail c.loop-term.draft.lines c.pass.new.cells c.pass.new.trail c.pass.new.draft.lines
+          c.requires.cells c.loop-term.invariant.progress c.pass.ensures.progress;
+      held = k.held;
+      room = c.in_ok-pass.ensures.room;
+      marked = k.marked;
+    }
