@@ -1,6 +1,6 @@
 -- The claims of a list hold of an image exactly where their forms hold of the values that tell the image.
-use Rattle.std.proofs.Common.{◌≡◌, ℕ, zero, suc, ◌+◌, ◌<◌, ◌≤◌, Bool, true, not, List, [], ◌∷◌, length, map, refl, sym, ap, ◌∙◌, subst, arith}
-use Rattle.std.specs.Prelude.{slice_index_or, IsTrue}
+use Rattle.std.proofs.Common.{◌≡◌, ℕ, zero, suc, ◌+◌, ◌<◌, ◌≤◌, Bool, true, not, List, Option, Some, None, [], ◌∷◌, length, map, refl, sym, ap, ◌∙◌, subst, arith}
+use Rattle.std.specs.Prelude.{slice_index_or, slice_get, IsSomeAnd, IsTrue}
 use Rattle.std.specs.List.{flat_map, zip, AllByRecursion}
 use Rattle.dt_bits.specs.Memory.{Memory}
 use Rattle.dt_model.specs.ModelData.{ModelData, ActData}
@@ -14,7 +14,7 @@ use Rattle.dt_walk.specs.Meaning.{rule_holds}
 use Rattle.dt_walk.specs.Walks.{RunData, walk_of}
 use Rattle.dt_image.specs.declared.image.Image.{Image}
 use Rattle.dt_image.specs.declared.image.ImageAccess.{ImageAccess}
-use Rattle.dt_satisfy.specs.Demands.{Made, meets, visits, is_done, is_fault, is_page}
+use Rattle.dt_satisfy.specs.Demands.{Made, meets, visits, leaves, is_done, is_fault, is_page}
 use Rattle.dt_satisfy.specs.Claims.{registers, run_of, made_of}
 use Rattle.dt_forms.specs.Meaning.{Valuation, is_one}
 use Rattle.dt_forms.specs.Forms.{Form, form_value}
@@ -27,9 +27,11 @@ use Rattle.dt_forms.specs.Claims.{Hold}
 use Rattle.dt_encode.proofs.Ends.{ends_hold, hold_ends}
 use Rattle.dt_encode.proofs.Ready.{IsReady, AreSet, Fits}
 use Rattle.dt_encode.proofs.Composed.{all_join, all_split, rules_hold, hold_rules, context_same, access_same, IsPlaced, ArePlaced, ContextsHold, AccessesHold}
-use Rattle.dt_encode.specs.Outs.{out_at}
+use Rattle.dt_encode.specs.Outs.{out_at, edge_at}
+use Rattle.dt_encode.proofs.Sides.{leaves_told}
+use Rattle.dt_request.specs.Lists.{is_fork}
 use Rattle.dt_encode.proofs.Visits.{visited, away_at}
-use Rattle.dt_encode.proofs.Told.{placed_length, AtAccess, regs_of, inputs_of, placed_away, placed_ends, end_done, done_end, end_fault, fault_end, end_page, page_end}
+use Rattle.dt_encode.proofs.Told.{placed_length, placed_flagged, AtAccess, regs_of, inputs_of, placed_away, placed_ends, end_done, done_end, end_fault, fault_end, end_page, page_end}
 
 -- the image that the values tell, over a memory
 abbrev pub seen : Valuation → ModelData → Requests → Memory → Image
@@ -155,7 +157,14 @@ demand_same v d r k a m os made (Avoid n) h p e o =
     let told_is : not (visits made.run n) ≡ is_one (v (out_at os n).away) =
     ap not (ap (λ (x : RunData). visits x n) e ∙ ap (visits (told v (steps d) os 0)) (sym z) ∙ visited v (steps d) os 0 n len o) ∙ sym (away_at v os n (placed_away v d r k a m os h p) (omega (arith, o, len))) in
     record { met = λ f. told_is ∙ f.0; held = λ f. (sym told_is ∙ f, tt) }
-demand_same v d r k a m os made (Take n b) h p e o = absurd o
+demand_same v d r k a m os made (Take n b) h p e o = by_step (slice_get (steps d) n) refl o
+  where
+    by_step : (q : Option ActData) → slice_get (steps d) n ≡ q → IsSomeAnd q (λ x. IsTrue (is_fork x)) → DemandSame v (steps d) os made (Take n b)
+    by_step None s g = absurd g
+    by_step (Some x) s g =
+        let told_is : leaves made.run n b ≡ is_one (v (edge_at b (out_at os n))) =
+        ap (λ (y : RunData). leaves y n b) e ∙ leaves_told v d.address (steps d) os n b x (placed_flagged v d r k a m os h p) (placed_length v d r k a os p) s g in
+        record { met = λ f. told_is ∙ f.0; held = λ f. (sym told_is ∙ f, tt) }
 demand_same v d r k a m os made (Page n) h p e o = record {
   met = λ f. let q = hold_ends v (ends_page n) (steps d) os (told v (steps d) os 0).end (placed_away v d r k a m os h p) f (placed_ends v d r k a m os h p) in
       ap (λ (x : RunData). is_page n x.end) e ∙ end_page n (told v (steps d) os 0).end q.0 q.1 q.2;

@@ -2,6 +2,7 @@
 use Rattle.std.proofs.Common.{◌≡◌, ℕ, ◌+◌, ◌<◌, ◌≤◌, Bool, true, false, not, ◌&&◌, eqb, List, [], ◌∷◌, length, ◌⊎◌, inl, inr, refl, sym, ap, ◌∙◌, subst, arith}
 use Rattle.std.proofs.lemmas.Bool.{cases_Bool, eqb-true, eqb-false, false≢true}
 use Rattle.dt_model.specs.ModelData.{ActData, bind, read, branch, fault, done}
+use Rattle.dt_request.specs.Lists.{is_fork}
 use Rattle.dt_walk.specs.Meaning.{EnvData, Vars}
 use Rattle.dt_forms.specs.Forms.{form_placed}
 use Rattle.dt_encode.specs.Expressions.{form_of}
@@ -67,6 +68,7 @@ pub record IsFlagged (v : Valuation) (address : ℕ) (p : ActData) (o : Out) : T
   pub other_is : is_flag v o.by_other
   pub comes : is_one (v o.by_then) ≡ true → is_one (v o.come) ≡ true
   pub wide : tells_address p ≡ true → (v o.value).width.0 ≡ address
+  pub splits : is_fork p ≡ true → is_one (v o.by_other) ≡ (is_one (v o.come) && not (is_one (v o.by_then)))
 
 to_flag : (v : Valuation) (t : ℕ) (b : Bool) → v t ≡ flag b → is_flag v t
 to_flag v t b e = e ∙ ap flag (sym (ap is_one e ∙ flag_one b))
@@ -78,9 +80,19 @@ both_left false q e = absurd (false≢true e)
 came : (v : Valuation) (come t : ℕ) (p q : Bool) → v come ≡ flag p → v t ≡ flag (p && q) → is_one (v t) ≡ true → is_one (v come) ≡ true
 came v come t p q e f g = ap is_one e ∙ flag_one p ∙ both_left p q (sym (ap is_one f ∙ flag_one (p && q)) ∙ g)
 
+-- a fork is left by its other side where the walk comes to it and doesn't leave it by `then`
+split_sides : (v : Valuation) (come t o : ℕ) (p q : Bool) → v come ≡ flag p → v t ≡ flag (p && q) → v o ≡ flag (p && not q) → is_one (v o) ≡ (is_one (v come) && not (is_one (v t)))
+split_sides v come t o p q e f g =
+    ap is_one g ∙ flag_one (p && not q) ∙ by_test p q
+    ∙ ap (λ (x : Bool). x && not (p && q)) (sym (ap is_one e ∙ flag_one p)) ∙ ap (λ (x : Bool). is_one (v come) && not x) (sym (ap is_one f ∙ flag_one (p && q)))
+  where
+    by_test : (p q : Bool) → (p && not q) ≡ (p && not (p && q))
+    by_test true q = refl
+    by_test false q = refl
+
 flagged : (v : Valuation) (a : Access) (st : EnvData) (cells : ℕ → Bool) (word count : ℕ) (s : State) (n : ℕ) (b : Bool) (p : ActData) → IsOf v a st cells → IsStep a.scope a.address word count n p → Wide v a s → v (s.come n) ≡ flag b
     → IsLawful v (passed a s n p).state.terms → IsFlagged v a.address p (passed a s n p).out
-flagged v a st cells word count s n b (bind x e to) i k w c h = record { come_is = to_flag v (s.come n) b c; then_is = to_flag v (s.come n) b c; other_is = to_flag v a.zero_term false i.zero_is; comes = λ q. q; wide = λ q. absurd (false≢true q) }
+flagged v a st cells word count s n b (bind x e to) i k w c h = record { come_is = to_flag v (s.come n) b c; then_is = to_flag v (s.come n) b c; other_is = to_flag v a.zero_term false i.zero_is; comes = λ q. q; wide = λ q. absurd (false≢true q); splits = λ q. absurd (false≢true q) }
 flagged v a st cells word count s n b (branch e t o) i k w c h =
     let y = form_placed s.terms (form_of (named a s) e) in
     let g = fork y.terms (s.come n) y.at in
@@ -90,7 +102,7 @@ flagged v a st cells word count s n b (branch e t o) i k w c h =
     let u = tree_wide v (named a s) e 1 s.terms (names_wide v a st cells s i w) k.0.0 k.0.1 h1 in
     let test = eqb (v y.at).bits 1 in
     let q = fork_value v y.terms (s.come n) y.at b test h2 c (one_bit (v y.at).width.0 (v y.at).bits u (i.range y.at)) in
-    record { come_is = to_flag v (s.come n) b c; then_is = to_flag v g.by_then (b && test) q.then_is; other_is = to_flag v g.by_other (b && not test) q.other_is; comes = came v (s.come n) g.by_then b test c q.then_is; wide = λ q. absurd (false≢true q) }
+    record { come_is = to_flag v (s.come n) b c; then_is = to_flag v g.by_then (b && test) q.then_is; other_is = to_flag v g.by_other (b && not test) q.other_is; comes = came v (s.come n) g.by_then b test c q.then_is; wide = λ q. absurd (false≢true q); splits = λ f. split_sides v (s.come n) g.by_then g.by_other b test c q.then_is q.other_is }
 flagged v a st cells word count s n b (read x e m t o) i k w c h =
     let y = form_placed s.terms (form_of (named a s) e) in
     let y2 = form_placed y.terms (is_cell a y.at) in
@@ -104,9 +116,9 @@ flagged v a st cells word count s n b (read x e m t o) i k w c h =
     let u = tree_wide v (named a s) e a.address s.terms (names_wide v a st cells s i w) k.0.0 k.0.1 h1 in
     let test = cells (v y.at).bits in
     let q = fork_value v y2.terms (s.come n) y2.at b test h3 c (i.cells_are y.terms y.at h2 u) in
-    record { come_is = to_flag v (s.come n) b c; then_is = to_flag v g.by_then (b && test) q.then_is; other_is = to_flag v g.by_other (b && not test) q.other_is; comes = came v (s.come n) g.by_then b test c q.then_is; wide = λ q. u }
-flagged v a st cells word count s n b (fault d) i k w c h = record { come_is = to_flag v (s.come n) b c; then_is = to_flag v a.zero_term false i.zero_is; other_is = to_flag v a.zero_term false i.zero_is; comes = λ q. absurd (false≢true (sym (ap is_one i.zero_is) ∙ q)); wide = λ q. absurd (false≢true q) }
-flagged v a st cells word count s n b (done e p) i k w c h = record { come_is = to_flag v (s.come n) b c; then_is = to_flag v a.zero_term false i.zero_is; other_is = to_flag v a.zero_term false i.zero_is; comes = λ q. absurd (false≢true (sym (ap is_one i.zero_is) ∙ q)); wide = λ q. tree_wide v (named a s) e a.address s.terms (names_wide v a st cells s i w) k.0 k.1 h }
+    record { come_is = to_flag v (s.come n) b c; then_is = to_flag v g.by_then (b && test) q.then_is; other_is = to_flag v g.by_other (b && not test) q.other_is; comes = came v (s.come n) g.by_then b test c q.then_is; wide = λ q. u; splits = λ f. split_sides v (s.come n) g.by_then g.by_other b test c q.then_is q.other_is }
+flagged v a st cells word count s n b (fault d) i k w c h = record { come_is = to_flag v (s.come n) b c; then_is = to_flag v a.zero_term false i.zero_is; other_is = to_flag v a.zero_term false i.zero_is; comes = λ q. absurd (false≢true (sym (ap is_one i.zero_is) ∙ q)); wide = λ q. absurd (false≢true q); splits = λ q. absurd (false≢true q) }
+flagged v a st cells word count s n b (done e p) i k w c h = record { come_is = to_flag v (s.come n) b c; then_is = to_flag v a.zero_term false i.zero_is; other_is = to_flag v a.zero_term false i.zero_is; comes = λ q. absurd (false≢true (sym (ap is_one i.zero_is) ∙ q)); wide = λ q. tree_wide v (named a s) e a.address s.terms (names_wide v a st cells s i w) k.0 k.1 h; splits = λ q. absurd (false≢true q) }
 
 pub outs_flagged : (v : Valuation) (a : Access) (st : EnvData) (cells : ℕ → Bool) (word : ℕ) (steps ps : List ActData) (s : State) (n to : ℕ) (vars : Vars) → IsOf v a st cells → AreLeft a word steps ps n → WordsWide v a word s ps n → IsLawful v (walk_placed a s ps n).terms → (n ≤ to → to < length steps) → Follows v a steps s n to vars
     → AllOuts (IsFlagged v a.address) ps (walk_placed a s ps n).outs

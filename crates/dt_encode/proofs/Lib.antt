@@ -30,3 +30,4 @@ pub mod Trees
 pub mod Visits
 pub mod Whole
 pub mod Words
+pub mod Sides

@@ -1,4 +1,4 @@
--- The problem of a request list: its terms in a fixed order, and those that must be 1. (Lists that ask for ends alone.)
+-- The problem of a request list: its terms in a fixed order, and those that must be 1. (Of quantities, links and kept ranges it has nothing yet.)
 use Rattle.std.specs.Prelude.{ℕ, zero, suc, ◌+◌, ◌*◌, ◌==◌, if◌then◌else◌, List, [], ◌∷◌, ◌++◌, length, map, None, replicate}
 use Rattle.std.specs.List.{flat_map}
 use Rattle.dt_bits.specs.Bits.{width}
@@ -7,7 +7,7 @@ use Rattle.dt_model.specs.ModelData.{ModelData, ActData}
 use Rattle.dt_model.specs.Widths.{Scope}
 use Rattle.dt_model.specs.Faults.{steps, node_scope, context_scope, access_scope}
 use Rattle.dt_request.specs.declared.list.Demand.{Demand}
-use Rattle.dt_request.specs.declared.list.Demand.TheVariants.{Via, Avoid, EndDone, EndFault, Page}
+use Rattle.dt_request.specs.declared.list.Demand.TheVariants.{Via, Avoid, Take, EndDone, EndFault, Page}
 use Rattle.dt_request.specs.declared.list.AccessWish.{AccessWish}
 use Rattle.dt_request.specs.declared.list.Requests.{Requests}
 use Rattle.dt_request.specs.Choices.{read_nodes}
@@ -21,7 +21,7 @@ use Rattle.dt_forms.specs.Forms.{Form, term, all_required}
 use Rattle.dt_encode.specs.Expressions.{form_of}
 use Rattle.dt_encode.specs.Passing.{Out, Access, State, walk_placed}
 use Rattle.dt_encode.specs.Claims.{ends_done, ends_fault, ends_page, ends_only, pair_forms, reads_of}
-use Rattle.dt_encode.specs.Outs.{out_at}
+use Rattle.dt_encode.specs.Outs.{out_at, edge_at}
 use Rattle.dt_encode.specs.Apart.{pages_at, tables_at, apart_forms}
 
 -- ---- choices: for each context its registers, and then for each access its inputs and a word for each read node
@@ -112,6 +112,7 @@ demand_forms ps os EndDone = ends_only ends_done ps os
 demand_forms ps os (EndFault code) = ends_only (ends_fault code) ps os
 demand_forms ps os (Via n) = term (out_at os n).come ∷ []
 demand_forms ps os (Avoid n) = term (out_at os n).away ∷ []
+demand_forms ps os (Take n by_then) = term (edge_at by_then (out_at os n)) ∷ []
 demand_forms ps os (Page exponent) = ends_only (ends_page exponent) ps os
 demand_forms ps os _ = []
 
