@@ -31,3 +31,5 @@ pub mod Visits
 pub mod Whole
 pub mod Words
 pub mod Sides
+pub mod Kept
+pub mod Ranges

@@ -46,10 +46,10 @@ blocks_append v key (x ∷ xs) ys = by_made (is_one (v (key x.out))) (blocks_app
     by_made true e = ap (λ (l : List Block). block_at (v x.out.value).bits x.exponent ∷ l) e
     by_made false e = e
 
-abbrev come_of : Out → ℕ
+abbrev pub come_of : Out → ℕ
 come_of o = o.come
 
-abbrev then_of : Out → ℕ
+abbrev pub then_of : Out → ℕ
 then_of o = o.by_then
 
 -- ---- pages
@@ -156,7 +156,7 @@ tables_told v address all (read x e g t f ∷ ps) (o ∷ os) n at h =
 -- ---- all accesses
 
 -- terms of such a node: a truth, and an address
-abbrev IsBlock : Valuation → ℕ → (Out → ℕ) → Sized → Type 0
+abbrev pub IsBlock : Valuation → ℕ → (Out → ℕ) → Sized → Type 0
 IsBlock v address key x = is_flag v (key x.out) × ((v x.out.value).width.0 ≡ address)
 
 pages_flagged : (v : Valuation) (address : ℕ) (ps : List ActData) (os : List Out) → AllOuts (IsFlagged v address) ps os → AllByRecursion (IsBlock v address come_of) (pages_at ps os)
@@ -186,13 +186,13 @@ tables_flagged v address (done e p ∷ ps) (o ∷ os) h = tables_flagged v addre
 tables_flagged v address (read x e g t f ∷ ps) (o ∷ os) h = ((h.0.then_is, h.0.wide refl), tables_flagged v address ps os h.1)
 
 -- the pages and tables of all runs, with what holds of their terms
-record AreBlocks (v : Valuation) (d : ModelData) (oss : List (List Out)) : Type 0 where
+pub record AreBlocks (v : Valuation) (d : ModelData) (oss : List (List Out)) : Type 0 where
   pub pages : pages_of (map (λ os. told v (steps d) os 0) oss) ≡ blocks_made v come_of (flat_map (pages_at (steps d)) oss)
   pub tables : tables_of (steps d) (map (λ os. told v (steps d) os 0) oss) ≡ blocks_made v then_of (flat_map (tables_at (steps d)) oss)
   pub page_is : AllByRecursion (IsBlock v d.address come_of) (flat_map (pages_at (steps d)) oss)
   pub table_is : AllByRecursion (IsBlock v d.address then_of) (flat_map (tables_at (steps d)) oss)
 
-all_blocks : (v : Valuation) (d : ModelData) (r : Requests) (m : Memory) (wishes : List AccessWish) (oss : List (List Out)) (k : ℕ) → IsReady d → AreSet v d r → Fits d r m → HaveContexts r wishes → k + length wishes ≤ length r.accesses
+pub all_blocks : (v : Valuation) (d : ModelData) (r : Requests) (m : Memory) (wishes : List AccessWish) (oss : List (List Out)) (k : ℕ) → IsReady d → AreSet v d r → Fits d r m → HaveContexts r wishes → k + length wishes ≤ length r.accesses
     → ArePlaced v d r k wishes oss → AreBlocks v d oss
 all_blocks v d r m [] [] k ready set fits c l p = record { pages = refl; tables = refl; page_is = tt; table_is = tt }
 all_blocks v d r m [] (os ∷ oss) k ready set fits c l p = absurd p
@@ -214,7 +214,7 @@ all_blocks v d r m (a ∷ more) (os ∷ oss) k ready set fits c l p =
 
 -- ---- forms
 
-abbrev block_of : Valuation → Sized → Block
+abbrev pub block_of : Valuation → Sized → Block
 block_of v x = block_at (v x.out.value).bits x.exponent
 
 overlap_is : (v : Valuation) (p t : Sized) → overlap (block_of v p) (block_of v t) ≡ eqb ((v p.out.value).bits / 2 ^ max p.exponent t.exponent) ((v t.out.value).bits / 2 ^ max p.exponent t.exponent)

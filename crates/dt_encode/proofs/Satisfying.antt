@@ -15,9 +15,7 @@ use Rattle.dt_request.specs.declared.list.Demand.{Demand}
 use Rattle.dt_request.specs.declared.list.Demand.TheVariants.{Via, Avoid, Take, EndDone, EndFault, Page, Bits, Span}
 use Rattle.dt_request.specs.Lists.{IsList, IsWish}
 use Rattle.dt_image.specs.declared.image.ImageAccess.{ImageAccess}
-use Rattle.dt_satisfy.specs.Links.{link_holds, pages_of, tables_of}
-use Rattle.dt_satisfy.specs.Blocks.{is_kept}
-use Rattle.dt_request.specs.declared.list.KeptRange.{KeptRange}
+use Rattle.dt_satisfy.specs.Links.{link_holds}
 use Rattle.dt_satisfy.specs.Claims.{runs_of, context_claims, access_claims, demand_claims, link_claims, apart_claim, kept_claims, claims}
 use Rattle.dt_satisfy.specs.Satisfies.{Satisfies}
 use Rattle.dt_encode.specs.Meant.{IsMeant, AreMeant}
@@ -27,7 +25,7 @@ use Rattle.dt_encode.specs.Passing.{Access, Out}
 use Rattle.dt_encode.specs.Told.{told}
 use Rattle.dt_encode.specs.Claims.{is_end, ends_done, ends_fault, ends_page, ends_only, pair_form, pair_forms, reads_of}
 use Rattle.dt_encode.specs.Apart.{same_block, apart_form, Sized, pages_at, tables_at, apart_forms}
-use Rattle.dt_encode.specs.Table.{demand_forms, wish_forms, page_forms, claim_forms, extra_forms, list_access, built, table, regs_at}
+use Rattle.dt_encode.specs.Table.{demand_forms, wish_forms, page_forms, keep_forms, claim_forms, extra_forms, list_access, built, table, regs_at}
 use Rattle.dt_encode.specs.Images.{contexts_told, accesses_told, reads_told, image_told}
 use Rattle.dt_forms.specs.Claims.{AreOnes}
 use Rattle.dt_forms.specs.Forms.{HasForm, HaveForms}
@@ -40,6 +38,8 @@ use Rattle.dt_encode.proofs.Composed.{all_join, all_split, ArePlaced, table_star
 use Rattle.dt_encode.proofs.Told.{AtAccess, placed_flagged, placed_remembered, AllFlagged, told_all, all_told, plain_agree}
 use Rattle.dt_encode.proofs.Claimed.{HaveContexts, AskEnds, AllTold, contexts_claimed, accesses_claimed, wishes_same, wishes_meet}
 use Rattle.dt_encode.proofs.Pages.{pages_apart}
+use Rattle.dt_encode.proofs.Kept.{kept_have}
+use Rattle.dt_encode.proofs.Ranges.{ranges_kept}
 
 -- ---- claims are forms
 
@@ -97,9 +97,11 @@ aparts_form a (p ∷ ps) tables = all_join HasForm (map (λ (t : Sized). apart_f
 pub claims_form : (d : ModelData) (r : Requests) (oss : List (List Out)) → HaveForms (claim_forms d r oss ++ extra_forms d r oss)
 claims_form d r oss =
     all_join HasForm (claim_forms d r oss) [] (
-    all_join HasForm (wish_forms (steps d) r.accesses oss ++ pair_forms (flat_map (reads_of (steps d)) oss)) (page_forms d r oss)
+    all_join HasForm (wish_forms (steps d) r.accesses oss ++ pair_forms (flat_map (reads_of (steps d)) oss) ++ page_forms d r oss) (keep_forms d r oss)
+    (all_join HasForm (wish_forms (steps d) r.accesses oss ++ pair_forms (flat_map (reads_of (steps d)) oss)) (page_forms d r oss)
     (all_join HasForm (wish_forms (steps d) r.accesses oss) (pair_forms (flat_map (reads_of (steps d)) oss)) (wishes_form (steps d) r.accesses oss) (pairs_form (flat_map (reads_of (steps d)) oss)))
-    (aparts_form (list_access d r) (flat_map (pages_at (steps d)) oss) (flat_map (tables_at (steps d)) oss))
+    (aparts_form (list_access d r) (flat_map (pages_at (steps d)) oss) (flat_map (tables_at (steps d)) oss)))
+    (kept_have (list_access d r) (flat_map (pages_at (steps d)) oss) (flat_map (tables_at (steps d)) oss) r.kept)
     ) tt
 
 -- ---- accesses
@@ -164,7 +166,8 @@ told_walks v d r ready list range h ones =
     let fits : Fits d r m = record { bytes = refl; lo = refl; hi = refl } in
     let c = contexts_have d r r.accesses (recursion_from_All (IsWish d (length r.contexts)) r.accesses list.accesses) in
     let some : (f : Form) → Type 0 = λ f. is_one (form_value v f) ≡ true in
-    let parts = all_split some (wish_forms (steps d) r.accesses oss ++ pair_forms (flat_map (reads_of (steps d)) oss)) (page_forms d r oss) solved.claims in
+    let halves = all_split some (wish_forms (steps d) r.accesses oss ++ pair_forms (flat_map (reads_of (steps d)) oss) ++ page_forms d r oss) (keep_forms d r oss) solved.claims in
+    let parts = all_split some (wish_forms (steps d) r.accesses oss ++ pair_forms (flat_map (reads_of (steps d)) oss)) (page_forms d r oss) halves.0 in
     let firsts = all_split some (wish_forms (steps d) r.accesses oss) (pair_forms (flat_map (reads_of (steps d)) oss)) parts.0 in
     let flagged = all_flagged v d r m r.accesses oss 0 ready set fits c (omega arith) placed in
     let agree : AllAgree (reads_told v (steps d) oss) = plain_agree (reads_told v (steps d) oss) (subst AllAgree (sym (told_all v d oss flagged)) (hold_agree v (flat_map (reads_of (steps d)) oss) (all_told v d oss flagged) firsts.1)) in
@@ -183,7 +186,8 @@ told_satisfies v d r ready list asks range h ones =
     let fits : Fits d r m = record { bytes = refl; lo = refl; hi = refl } in
     let c = contexts_have d r r.accesses (recursion_from_All (IsWish d (length r.contexts)) r.accesses list.accesses) in
     let some : (f : Form) → Type 0 = λ f. is_one (form_value v f) ≡ true in
-    let parts = all_split some (wish_forms (steps d) r.accesses oss ++ pair_forms (flat_map (reads_of (steps d)) oss)) (page_forms d r oss) solved.claims in
+    let halves = all_split some (wish_forms (steps d) r.accesses oss ++ pair_forms (flat_map (reads_of (steps d)) oss) ++ page_forms d r oss) (keep_forms d r oss) solved.claims in
+    let parts = all_split some (wish_forms (steps d) r.accesses oss ++ pair_forms (flat_map (reads_of (steps d)) oss)) (page_forms d r oss) halves.0 in
     let firsts = all_split some (wish_forms (steps d) r.accesses oss) (pair_forms (flat_map (reads_of (steps d)) oss)) parts.0 in
     let all = told_walks v d r ready list range h ones in
     let ask = ask_ends d r.accesses (recursion_from_All (λ (a : AccessWish). All (IsMeant d) a.demands) r.accesses asks.demands) in
@@ -207,7 +211,7 @@ told_satisfies v d r ready list asks range h ones =
           (wishes_meet v d r m r.accesses oss 0 same firsts.0))
           (subst (λ (l : List Link). AllByRecursion IsTrue (map (link_holds (steps d) (runs_of d i)) l)) (sym asks.links) tt)) (
             pages_apart v d r m oss ready set fits c placed all parts.1,
-            subst (λ (l : List KeptRange). AllByRecursion IsTrue (map (is_kept (pages_of (runs_of d i)) (tables_of (steps d) (runs_of d i))) l)) (sym asks.kept) tt,
+            ranges_kept v d r m oss ready list set fits c placed all halves.1,
           )
           );
     }

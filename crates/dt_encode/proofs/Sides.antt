@@ -1,10 +1,8 @@
 -- A walk leaves a fork by a side exactly where the term of that edge is 1.
-use Rattle.std.proofs.Common.{◌≡◌, ℕ, zero, suc, ◌+◌, ◌<◌, ◌≤◌, Bool, true, false, cond, not, ◌&&◌, ◌||◌, eqb, List, [], ◌∷◌, length, Some, refl, sym, ap, ◌∙◌, subst, arith}
+use Rattle.std.proofs.Common.{◌≡◌, ℕ, zero, suc, ◌+◌, ◌<◌, Bool, true, false, cond, not, ◌&&◌, ◌||◌, List, [], ◌∷◌, length, Some, refl, sym, ap, ◌∙◌, subst, arith}
 use Rattle.std.specs.Prelude.{slice_get}
-use Rattle.std.specs.List.{list_any}
 use Rattle.std.proofs.lemmas.Bool.{eq-eqb, ne_eqb, false≢true}
 use Rattle.dt_model.specs.ModelData.{ActData, bind, read, branch, fault, done}
-use Rattle.dt_walk.specs.declared.run.SideTaken.{SideTaken}
 use Rattle.dt_walk.specs.Walks.{RunData}
 use Rattle.dt_request.specs.Lists.{is_fork}
 use Rattle.dt_satisfy.specs.Demands.{leaves, is_side}

@@ -21,7 +21,7 @@ use Rattle.dt_forms.specs.Forms.{Form, form_value}
 use Rattle.dt_encode.specs.Passing.{Out}
 use Rattle.dt_encode.specs.Told.{told}
 use Rattle.dt_encode.specs.Claims.{pair_forms, reads_of}
-use Rattle.dt_encode.specs.Table.{regs_at, inputs_at, words_at, access_of, first_state, wish_forms, page_forms, built, table}
+use Rattle.dt_encode.specs.Table.{regs_at, inputs_at, words_at, access_of, first_state, wish_forms, page_forms, keep_forms, built, table}
 use Rattle.dt_encode.specs.Images.{contexts_told, accesses_told, reads_told}
 use Rattle.dt_encode.specs.Numbers.{word_in, words_for, access_numbers, numbers_of}
 use Rattle.dt_forms.specs.Claims.{AreOnes}
@@ -37,6 +37,7 @@ use Rattle.dt_encode.proofs.Satisfying.{claims_form, contexts_have, ask_ends, al
 use Rattle.dt_encode.proofs.Rising.{walk_rising, rising_remembers, remembers_agree, rising_said}
 use Rattle.dt_encode.proofs.Numbers.{HaveBits, bits_split, contexts_back, contexts_total, HaveWords, accesses_back, words_back}
 use Rattle.dt_encode.proofs.Pages.{apart_pages}
+use Rattle.dt_encode.proofs.Ranges.{kept_ranges}
 
 one_said : (v : Valuation) (d : ModelData) (r : Requests) (k : ℕ) (a : AccessWish) (m : Memory) (os : List Out) → AtAccess v d r k a m → IsPlaced v d r k a os
     → HaveBits v (words_at d r k) (words_for (steps d) (run_of d (seen v d r m) (access_told v d r k a)).reads 0)
@@ -94,9 +95,11 @@ seen_solved v d r m ready list asks range h fits words holds =
     solved_table v d r ready (claims_form d r oss) h (record {
       contexts = claimed_contexts v d r (length r.contexts) 0 ready set (omega arith) p1.0;
       accesses = claimed_accesses v d r m r.accesses 0 ready set c (omega arith) p1.1;
-      claims = all_join some (wish_forms (steps d) r.accesses oss ++ pair_forms reads) (page_forms d r oss)
+      claims = all_join some (wish_forms (steps d) r.accesses oss ++ pair_forms reads ++ page_forms d r oss) (keep_forms d r oss)
+          (all_join some (wish_forms (steps d) r.accesses oss ++ pair_forms reads) (page_forms d r oss)
           (all_join some (wish_forms (steps d) r.accesses oss) (pair_forms reads) (wishes_hold v d r m r.accesses oss 0 same p2.1) (agree_hold v reads (all_told v d oss flagged) agree))
-          (apart_pages v d r m oss ready set fits c placed all p4.1.0);
+          (apart_pages v d r m oss ready set fits c placed all p4.1.0))
+          (kept_ranges v d r m oss ready list set fits c placed all p4.1.1);
     }) tt
 
 pub image_solved : (v : Valuation) (d : ModelData) (r : Requests) (i : Image) → IsReady d → IsList d r → AreMeant d r → ((t : ℕ) → (v t).bits < 2 ^ (v t).width.0) → IsLawful v (table d r).terms → HaveBits v 0 (numbers_of d i) → Satisfies d r i → AreOnes v (table d r).required

@@ -12,3 +12,4 @@ pub mod Passing
 pub mod Table
 pub mod Told
 pub mod Words
+pub mod Kept

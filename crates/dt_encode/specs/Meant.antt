@@ -20,4 +20,3 @@ IsMeant d _ = ⊥
 pub record AreMeant (d : ModelData) (r : Requests) : Type 0 where
   pub demands : All (λ (a : AccessWish). All (IsMeant d) a.demands) r.accesses
   pub links : r.links ≡ []
-  pub kept : r.kept ≡ []

@@ -1,4 +1,4 @@
--- The problem of a request list: its terms in a fixed order, and those that must be 1. (Of quantities, links and kept ranges it has nothing yet.)
+-- The problem of a request list: its terms in a fixed order, and those that must be 1. (Of demands on quantities and of links it has nothing yet.)
 use Rattle.std.specs.Prelude.{ℕ, zero, suc, ◌+◌, ◌*◌, ◌==◌, if◌then◌else◌, List, [], ◌∷◌, ◌++◌, length, map, None, replicate}
 use Rattle.std.specs.List.{flat_map}
 use Rattle.dt_bits.specs.Bits.{width}
@@ -23,6 +23,7 @@ use Rattle.dt_encode.specs.Passing.{Out, Access, State, walk_placed}
 use Rattle.dt_encode.specs.Claims.{ends_done, ends_fault, ends_page, ends_only, pair_forms, reads_of}
 use Rattle.dt_encode.specs.Outs.{out_at, edge_at}
 use Rattle.dt_encode.specs.Apart.{pages_at, tables_at, apart_forms}
+use Rattle.dt_encode.specs.Kept.{kept_forms}
 
 -- ---- choices: for each context its registers, and then for each access its inputs and a word for each read node
 
@@ -128,9 +129,13 @@ list_access d r = record { scope = node_scope d; regs = 0; inputs = 0; address =
 abbrev pub page_forms : ModelData → Requests → List (List Out) → List Form
 page_forms d r outs = apart_forms (list_access d r) (flat_map (pages_at (steps d)) outs) (flat_map (tables_at (steps d)) outs)
 
--- the claims that are no rule: demands, reads at one cell, and pages
+-- no page and no table touches a kept range
+abbrev pub keep_forms : ModelData → Requests → List (List Out) → List Form
+keep_forms d r outs = flat_map (kept_forms (list_access d r) (flat_map (pages_at (steps d)) outs) (flat_map (tables_at (steps d)) outs)) r.kept
+
+-- the claims that are no rule: demands, reads at one cell, pages, and kept ranges
 abbrev pub claim_forms : ModelData → Requests → List (List Out) → List Form
-claim_forms d r outs = wish_forms (steps d) r.accesses outs ++ pair_forms (flat_map (reads_of (steps d)) outs) ++ page_forms d r outs
+claim_forms d r outs = wish_forms (steps d) r.accesses outs ++ pair_forms (flat_map (reads_of (steps d)) outs) ++ page_forms d r outs ++ keep_forms d r outs
 
 -- further forms that hold of each image that satisfies
 abbrev pub extra_forms : ModelData → Requests → List (List Out) → List Form
