@@ -1,0 +1,19 @@
+ghost use Rattle.dt_encode.specs.Faithful.{SolutionsAreImages, SolutionsAreMemories, ImagesAreSolutions};
+
+/// A law of the problem of a list; the call does nothing. Numbers for the choices that make each
+/// required term 1 tell an image that satisfies the list.
+pub fn solutions_are_images()
+    ensures { SolutionsAreImages }
+{}
+
+/// A law of the problem of a list; the call does nothing. The memory of the image that such numbers
+/// tell is a table memory: its words lie at rising places of the table's bounds.
+pub fn solutions_are_memories()
+    ensures { SolutionsAreMemories }
+{}
+
+/// A law of the problem of a list; the call does nothing. An image that satisfies the list gives
+/// numbers for the choices that make each required term 1.
+pub fn images_are_solutions()
+    ensures { ImagesAreSolutions }
+{}

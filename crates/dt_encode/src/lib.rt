@@ -1,0 +1,12 @@
+//! The problem of a request list: a model and a list as terms of choices, and which of them must
+//! be 1.
+//!
+//! Proved, as laws over the definition of the problem: numbers for the choices that make each
+//! required term 1 tell an image that satisfies the list, and each image that satisfies gives such
+//! numbers. So far the lists have no links, and no demand on bits or a span of a quantity; and it is
+//! a premise that the problem's terms are well formed. There is no code yet that builds the problem.
+#![tactic(auto)]
+
+mod faithful;
+
+pub use faithful::{images_are_solutions, solutions_are_images, solutions_are_memories};

@@ -1,0 +1,11 @@
+//! Forms: operators over terms that stand already. A form is what is put behind the terms of a
+//! problem, each part where it stands already if it does, and what is claimed of them.
+//!
+//! Proved, as laws over the definitions: a form stands with its value under all lawful values;
+//! required forms hold exactly where their terms are 1; a form that fits can be placed within its
+//! size; numbers for the choices give lawful values. There is no code yet that places forms.
+#![tactic(auto)]
+
+mod laws;
+
+pub use laws::{forms_fit, forms_have_values, numbers_give_values, required_terms_hold};
