@@ -1,5 +1,5 @@
 -- A record over a deciding domain has few splits.
-use Rattle.std.proofs.Common.{◌≡◌, ◌≢◌, ℕ, zero, suc, ◌+◌, ◌-◌, ◌*◌, ◌^◌, ◌<◌, ◌≤◌, Bool, true, false, not, ◌||◌, cond, List, [], ◌∷◌, ◌++◌, length, map, get_or, set, unwrap_or, Option, Some, None, refl, sym, ap, ◌∙◌, subst, inl, inr, ◌⊎◌, ⊎_elim, arith, length-set, get_or-set_same, get_or-set_other}
+use Rattle.std.proofs.Common.{◌≡◌, ◌≢◌, ℕ, zero, suc, ◌+◌, ◌-◌, ◌^◌, ◌<◌, ◌≤◌, Bool, true, false, ◌||◌, cond, List, [], ◌∷◌, ◌++◌, length, get_or, set, unwrap_or, Option, Some, None, refl, sym, ap, ◌∙◌, subst, inl, inr, ◌⊎◌, ⊎_elim, arith, length-set, get_or-set_same, get_or-set_other}
 use Rattle.std.specs.Prelude.{MatchOption}
 use Rattle.std.specs.List.{AllByRecursion}
 use Rattle.std.proofs.lemmas.List.{length-map, get_or-map}
@@ -9,20 +9,20 @@ use Rattle.std.proofs.Math.Nat.{pow-suc}
 use Rattle.dt_bits.specs.Bits.{bit, width, IsValue}
 use Rattle.dt_bits.specs.declared.value.Bv.{Bv}
 use Rattle.dt_bits.proofs.BitLemmas.{bit_of_small, bit_of_ones}
-use Rattle.dt_domain.specs.Domain.{DomainOps, DomainLaws, DecidingLaws, KnowsBit, Holds, IsAllKnown, bits_of}
+use Rattle.dt_domain.specs.Domain.{DomainOps, DomainLaws, DecidingLaws, KnowsBit, Holds}
 use Rattle.dt_terms.specs.declared.term.Term.{Term}
-use Rattle.dt_terms.specs.Terms.{term_at, bits_at, width_of_term, is_choice, AreTerms, choices_of, choice_at}
+use Rattle.dt_terms.specs.Terms.{term_at, width_of_term, is_choice, AreTerms, choices_of, choice_at}
 use Rattle.dt_terms.specs.Problem.{ProblemData, IsProblem}
 use Rattle.dt_terms.specs.Values.{IsAssignment, solves}
 use Rattle.dt_terms.proofs.Choices.{choice_there, choice_stands}
 use Rattle.dt_box.specs.declared.step.Step.{Step}
 use Rattle.dt_box.specs.declared.step.Step.TheVariants.{Forward, Backward}
-use Rattle.dt_box.specs.Cells.{cell_at, AreCells, is_required, root_cells, root_cell, certain}
+use Rattle.dt_box.specs.Cells.{cell_at, AreCells, root_cells, certain}
 use Rattle.dt_box.specs.Steps.{IsStep, target, narrowed, after_step, after_bit}
 use Rattle.dt_box.specs.Stillness.{HasNoEmpty, IsSettled}
-use Rattle.dt_box.specs.Unknown.{IsUnknownBit, unknown_bits, unknown_of, bits_of_choices, AreRequiredKnown}
-use Rattle.dt_box.proofs.Unknown.{Keeps, unknown_le, unknown_lt, unknown_some, unknown_most, some_unknown, step_held, step_keeps_all, bit_held, bit_keeps_all, bit_fewer}
-use Rattle.dt_box.proofs.Steps.{step_cells, bit_cells, step_narrows, at_set}
+use Rattle.dt_box.specs.Unknown.{IsUnknownBit, unknown_bits, bits_of_choices, AreRequiredKnown}
+use Rattle.dt_box.proofs.Unknown.{unknown_le, unknown_some, unknown_most, some_unknown, step_held, step_keeps_all, bit_held, bit_fewer}
+use Rattle.dt_box.proofs.Steps.{step_cells, bit_cells}
 use Rattle.dt_box.proofs.Knowledge.{step_keeps, step_empty, bit_decides}
 use Rattle.dt_box.proofs.Roots.{root_cells_are, root_cell_at}
 use Rattle.dt_log.specs.Trees.{Tree, forward, backward, close, split, loose, unvisited, splits_of, is_open, is_loose_first}

@@ -1,30 +1,28 @@
 -- The state of the checker, item by item.
-use Rattle.std.proofs.Common.{◌≡◌, ℕ, ◌+◌, ◌<◌, ◌≤◌, Bool, true, false, List, [], ◌∷◌, ◌++◌, length, take, reverse, Option, Some, None, refl, sym, ap, ◌∙◌, subst, arith}
+use Rattle.std.proofs.Common.{◌≡◌, ℕ, ◌+◌, ◌<◌, ◌≤◌, true, false, List, [], ◌∷◌, ◌++◌, length, take, reverse, Option, Some, None, sym, ap, ◌∙◌, subst, arith}
 use Rattle.std.specs.Prelude.{All}
-use Rattle.std.proofs.lemmas.List.{length-take-le, reverse-append}
+use Rattle.std.proofs.lemmas.List.{length-take-le}
 use Rattle.std.proofs.lemmas.List.Elements.{All-take, All-nil}
 use Rattle.dt_domain.specs.Domain.{DomainOps}
 use Rattle.dt_terms.specs.declared.term.Term.{Term}
-use Rattle.dt_terms.specs.Terms.{bits_at}
-use Rattle.dt_terms.specs.Problem.{ProblemData, IsProblem}
+use Rattle.dt_terms.specs.Problem.{ProblemData}
 use Rattle.dt_box.specs.declared.step.Step.{Step}
 use Rattle.dt_box.specs.declared.step.Step.TheVariants as steps
-use Rattle.dt_box.specs.Cells.{AreCells, root_cells}
-use Rattle.dt_box.specs.Steps.{IsStep, after_step, after_bit}
+use Rattle.dt_box.specs.Cells.{AreCells}
+use Rattle.dt_box.specs.Steps.{after_step, after_bit}
 use Rattle.dt_box.specs.Stillness.{IsSettled}
 use Rattle.dt_box.specs.Trails.{back, IsKept}
 use Rattle.dt_box.proofs.Trails.{kept_back, back_twice, back_whole}
-use Rattle.dt_log.specs.declared.line.Line.TheVariants.{Forward, Backward, Try, Split, Close, Loose, Unvisited}
+use Rattle.dt_log.specs.declared.line.Line.TheVariants.{Split, Close, Loose, Unvisited}
 use Rattle.dt_log.specs.declared.line.Claim.{Claim}
 use Rattle.dt_log.specs.declared.line.Claim.TheVariants.{Impossible, Budget}
-use Rattle.dt_check.specs.declared.verdict.Cause.{Cause}
 use Rattle.dt_check.specs.declared.pending.Pending.{Pending}
 use Rattle.dt_check.specs.declared.checker.Finding.{Finding}
 use Rattle.dt_check.specs.declared.checker.Finding.TheVariants.{Passed, Ended, Refused}
 use Rattle.dt_check.specs.Accepting.{SplitTrial}
 use Rattle.dt_check.specs.Reading.{reading, close_cause, split_cause, split_trial, loose_cause, unvisited_cause, step_cause}
-use Rattle.dt_check.specs.Waiting.{right_cells, waiting, Stacked, CanBegin, AtSplits, IsNext, IsBegun}
-use Rattle.dt_check.specs.Checking.{State, state, left, reading_at, WasSettled, settled_at, UnderBudget, IsSplitAt, IsState, IsTreeEnded, IsFound, step_line}
+use Rattle.dt_check.specs.Waiting.{waiting, Stacked, CanBegin, AtSplits, IsNext, IsBegun}
+use Rattle.dt_check.specs.Checking.{State, state, left, WasSettled, settled_at, UnderBudget, IsSplitAt, IsState, IsTreeEnded, IsFound, step_line}
 use Rattle.dt_check.proofs.Passing.{split_passed, split_trial_passed}
 use Rattle.dt_check.proofs.Waiting.{stacked_more, waiting_kept, turned}
 

@@ -1,34 +1,33 @@
 -- At settled cells in which every bit of every choice is known, what is tried solves the problem.
-use Rattle.std.proofs.Common.{◌≡◌, ◌≢◌, ℕ, zero, suc, ◌+◌, ◌-◌, ◌^◌, ◌<◌, ◌≤◌, Bool, true, false, not, ◌&&◌, ◌||◌, eqb, List, [], ◌∷◌, length, take, get_or, bit_and, refl, sym, ap, ◌∙◌, subst, inl, inr, ◌⊎◌, ⊎_elim, arith}
+use Rattle.std.proofs.Common.{◌≡◌, ℕ, zero, suc, ◌-◌, ◌^◌, ◌<◌, ◌≤◌, Bool, true, false, not, ◌&&◌, ◌||◌, eqb, List, [], ◌∷◌, length, take, get_or, refl, sym, ap, ◌∙◌, subst, inl, inr, ⊎_elim, arith}
 use Rattle.std.specs.List.{list_all, list_any}
 use Rattle.std.specs.Prelude.{All}
-use Rattle.std.proofs.lemmas.Bool.{cases_Bool, cases_lt, false≢true, true≢false, or_parts, and_left, not-false, not_from_false, eqb-true, eq-eqb, and_from, or_cases, or_left, or_right}
+use Rattle.std.proofs.lemmas.Bool.{cases_lt, false≢true, true≢false, or_parts, eqb-true, eq-eqb, and_from, or_cases, or_left, or_right}
 use Rattle.std.proofs.lemmas.List.{get_or-take}
 use Rattle.std.proofs.lemmas.Nat.{pow_pos}
-use Rattle.dt_bits.specs.Bits.{bit, width, some_below}
-use Rattle.dt_bits.specs.Ops.{arity_of}
+use Rattle.dt_bits.specs.Bits.{bit}
 use Rattle.dt_bits.specs.declared.op.Op.{Op}
 use Rattle.dt_bits.specs.declared.value.Width.{Width}
 use Rattle.dt_bits.proofs.BitLemmas.{same_bits, bit_of_and, bit_of_ones, bit_of_small}
 use Rattle.dt_bits.proofs.Below.{none_below}
-use Rattle.dt_domain.specs.Domain.{DomainOps, DomainLaws, Holds, HoldUsed, KnowsBit, IsAllKnown, AreUsedKnown, AreAlike, bits_of, value_at}
+use Rattle.dt_domain.specs.Domain.{DomainOps, DomainLaws, Holds, KnowsBit, IsAllKnown, AreUsedKnown, AreAlike, bits_of}
 use Rattle.dt_terms.specs.declared.term.Term.{Term}
 use Rattle.dt_terms.specs.declared.term.Term.TheVariants.{Choice, Node}
-use Rattle.dt_terms.specs.Terms.{width_of_term, term_at, bits_at, is_choice, AreTerms, choices_of, choice_at}
+use Rattle.dt_terms.specs.Terms.{term_at, bits_at, is_choice, AreTerms, choice_at}
 use Rattle.dt_terms.specs.Problem.{ProblemData, IsProblem, IsTest}
 use Rattle.dt_terms.specs.Values.{IsAssignment, values_of, value_of_term, solves}
-use Rattle.dt_terms.proofs.Placed.{IsPlaced, placed, fits_parts}
+use Rattle.dt_terms.proofs.Placed.{placed}
 use Rattle.dt_terms.proofs.Choices.{choice_there}
 use Rattle.dt_terms.proofs.Valued.{value_is, values_fit, length-values_of}
-use Rattle.dt_box.specs.declared.step.Step.TheVariants.{Forward, Backward}
+use Rattle.dt_box.specs.declared.step.Step.TheVariants.{Forward}
 use Rattle.dt_box.specs.Changes.{knows_more}
-use Rattle.dt_box.specs.Cells.{cell_at, AreCells, HoldAssignment, is_required}
-use Rattle.dt_box.specs.Steps.{IsStep, IsNodeTerm, operand_cell, propagated_forward, propagated, narrowed}
-use Rattle.dt_box.specs.Stillness.{IsSettled, tells}
+use Rattle.dt_box.specs.Cells.{cell_at, AreCells, HoldAssignment}
+use Rattle.dt_box.specs.Steps.{IsStep, IsNodeTerm, operand_cell, propagated_forward, propagated}
+use Rattle.dt_box.specs.Stillness.{IsSettled}
 use Rattle.dt_box.specs.Unknown.{AreRequiredKnown}
 use Rattle.dt_box.proofs.Steps.{fitting, used_cell, step_alike}
 use Rattle.dt_box.proofs.Assignments.{node_value}
-use Rattle.dt_check.specs.Trials.{choice_cell, HoldChoices}
+use Rattle.dt_check.specs.Trials.{HoldChoices}
 
 module _ (D : Type 0) (ops : DomainOps D) (laws : DomainLaws ops) where
   -- a mask of all bits is full

@@ -1,6 +1,6 @@
 -- The checker's loop: what the items that are left say.
-use Rattle.std.proofs.Common.{◌≡◌, ℕ, zero, suc, ◌+◌, ◌<◌, ◌≤◌, Bool, true, false, ◌&&◌, cond, eqb, List, [], ◌∷◌, length, get_or, drop, drop-cons, Option, Some, None, refl, sym, ap, ◌∙◌, subst, inl, inr, ◌⊎◌, arith}
-use Rattle.std.proofs.lemmas.Bool.{false≢true, cases_Bool, cond-true, cond-false}
+use Rattle.std.proofs.Common.{◌≡◌, ℕ, suc, ◌+◌, ◌<◌, ◌≤◌, Bool, true, false, ◌&&◌, cond, eqb, List, [], ◌∷◌, length, get_or, drop, drop-cons, Option, Some, None, refl, sym, ap, ◌∙◌, subst, arith}
+use Rattle.std.proofs.lemmas.Bool.{false≢true}
 use Rattle.std.proofs.Math.ListN.{drop_of_length-le}
 use Rattle.dt_domain.specs.Domain.{DomainOps, DomainLaws}
 use Rattle.dt_terms.specs.declared.term.Term.{Term}
@@ -10,7 +10,7 @@ use Rattle.dt_log.specs.declared.line.Line.{Line}
 use Rattle.dt_log.specs.declared.line.Line.TheVariants.{Forward, Backward, Try, Split, Close, Loose, Unvisited}
 use Rattle.dt_log.specs.declared.line.Claim.{Claim}
 use Rattle.dt_log.specs.declared.line.Claim.TheVariants.{Impossible, Budget}
-use Rattle.dt_log.specs.Trees.{Tree, lines_of, splits_of, StandsFor}
+use Rattle.dt_log.specs.Trees.{lines_of}
 use Rattle.dt_log.specs.Shapes.{shape, is_done, is_tree}
 use Rattle.dt_log.specs.Shapes as shapes
 use Rattle.dt_log.proofs.Forests.{tree_of}

@@ -1,20 +1,19 @@
 -- The items of a tree pass exactly where the checker accepts the tree.
-use Rattle.std.proofs.Common.{◌≡◌, ◌≢◌, ℕ, zero, suc, ◌+◌, ◌<◌, Bool, true, false, not, ◌&&◌, ◌||◌, cond, eqb, ltb, List, [], ◌∷◌, ◌++◌, length, map, Option, Some, None, refl, sym, ap, ◌∙◌, subst, inl, inr, ◌⊎◌, arith, append_assoc, length-set}
-use Rattle.std.specs.List.{list_all, AllByRecursion}
-use Rattle.std.proofs.lemmas.Bool.{cases_Bool, ltb-true, lt-ltb, false≢true, true≢false, not-true}
+use Rattle.std.proofs.Common.{◌≡◌, ℕ, ◌+◌, Bool, true, false, not, ◌||◌, cond, ltb, List, [], ◌∷◌, ◌++◌, length, map, Option, Some, None, refl, sym, ap, ◌∙◌, subst, arith, append_assoc, length-set}
+use Rattle.std.specs.List.{list_all}
+use Rattle.std.proofs.lemmas.Bool.{ltb-true, lt-ltb, false≢true, not-true}
 use Rattle.std.proofs.lemmas.List.{append-nil}
 use Rattle.dt_bits.specs.Bits.{bit}
 use Rattle.dt_domain.specs.Domain.{DomainOps}
-use Rattle.dt_terms.specs.declared.term.Term.{Term}
 use Rattle.dt_terms.specs.Terms.{term_at, bits_at, is_choice}
 use Rattle.dt_terms.specs.Problem.{ProblemData}
 use Rattle.dt_terms.specs.Values.{solves}
 use Rattle.dt_box.specs.declared.step.Step.{Step}
 use Rattle.dt_box.specs.declared.step.Step.TheVariants as steps
-use Rattle.dt_box.specs.Cells.{cell_at, AreCells}
+use Rattle.dt_box.specs.Cells.{cell_at}
 use Rattle.dt_box.specs.Steps.{IsStep, target, narrowed, after_step, after_bit}
 use Rattle.dt_log.specs.declared.line.Line.{Line}
-use Rattle.dt_log.specs.declared.line.Line.TheVariants.{Forward, Backward, Try, Split, Close, Loose, Unvisited}
+use Rattle.dt_log.specs.declared.line.Line.TheVariants.{Split, Loose}
 use Rattle.dt_log.specs.declared.line.Claim.{Claim}
 use Rattle.dt_log.specs.declared.line.Claim.TheVariants.{Impossible, Budget}
 use Rattle.dt_log.specs.Trees.{Tree, forward, backward, close, split, loose, unvisited, is_open, splits_of, lines_of, try_line}
@@ -23,7 +22,7 @@ use Rattle.dt_check.specs.Trials.{tried, IsTry, IsFailedTrial}
 use Rattle.dt_box.specs.Unknown.{IsUnknownBit}
 use Rattle.dt_check.specs.Sound.{IsEmptyAt}
 use Rattle.dt_check.specs.Tests.{is_step, is_settled, is_try}
-use Rattle.dt_check.specs.Reading.{Reading, reading, top, rest_of, after_line, after_lines, unless, cause_of, step_cause, close_cause, split_cause, trial_cause, split_trial, loose_cause, unvisited_cause, Passes}
+use Rattle.dt_check.specs.Reading.{Reading, reading, after_line, after_lines, cause_of, step_cause, close_cause, split_cause, trial_cause, split_trial, loose_cause, unvisited_cause, Passes}
 use Rattle.dt_check.specs.Accepting.{SplitTrial, LooseTrial, MayBeUnvisited, Accepts}
 use Rattle.dt_check.proofs.Testing.{step_is, step_test, each_from, each_test, try_is, try_test, settled_is, settled_test}
 

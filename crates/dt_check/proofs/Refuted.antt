@@ -1,6 +1,6 @@
 -- A problem that a tree refutes has no solving assignment.
-use Rattle.std.proofs.Common.{◌≡◌, ℕ, ◌<◌, Bool, true, false, List, length, get_or, refl, sym, ap, ◌∙◌, subst, inl, inr, ◌⊎◌, arith, slice_index}
-use Rattle.std.proofs.lemmas.Bool.{cases_Bool, false≢true, true≢false, or_parts}
+use Rattle.std.proofs.Common.{◌≡◌, ℕ, true, false, List, get_or, sym, ◌∙◌, inl, inr, ◌⊎◌}
+use Rattle.std.proofs.lemmas.Bool.{cases_Bool, true≢false, or_parts}
 use Rattle.dt_bits.specs.Bits.{bit}
 use Rattle.dt_domain.specs.Domain.{DomainOps, DomainLaws}
 use Rattle.dt_terms.specs.declared.term.Term.{Term}

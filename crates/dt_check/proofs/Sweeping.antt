@@ -5,10 +5,9 @@ use Rattle.dt_domain.specs.Domain.{DomainOps}
 use Rattle.dt_terms.specs.declared.term.Term.{Term}
 use Rattle.dt_box.specs.declared.step.Step.{Step}
 use Rattle.dt_box.specs.Cells.{cell_at}
-use Rattle.dt_box.specs.Steps.{IsStep}
 use Rattle.dt_box.specs.Stillness.{TellsNew, IsSettled}
-use Rattle.dt_check.specs.Tests.{is_step, is_settled}
-use Rattle.dt_check.proofs.Testing.{settled_is, settled_test, step_is}
+use Rattle.dt_check.specs.Tests.{is_settled}
+use Rattle.dt_check.proofs.Testing.{settled_is, settled_test}
 
 pub not_true : (b : Bool) → (b ≡ true → ⊥) → false ≡ b
 not_true b h = ⊎_elim (λ (e : b ≡ true). absurd (h e)) (λ (e : b ≡ false). sym e) (cases_Bool b)

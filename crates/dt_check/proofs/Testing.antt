@@ -1,19 +1,17 @@
 -- What the tests tell.
-use Rattle.std.proofs.Common.{◌≡◌, ℕ, zero, suc, ◌+◌, ◌<◌, Bool, true, false, not, ◌&&◌, cond, ltb, List, [], ◌∷◌, length, get_or, Option, Some, None, refl, sym, ap, ◌∙◌, subst, inl, inr, ◌⊎◌, ⊎_elim, arith}
+use Rattle.std.proofs.Common.{◌≡◌, ℕ, zero, suc, ◌+◌, ◌<◌, Bool, true, false, not, ◌&&◌, ltb, List, [], ◌∷◌, length, get_or, refl, sym, ap, ◌∙◌, subst, arith}
 use Rattle.std.specs.List.{list_all, range_with_len, AllByRecursion}
-use Rattle.std.proofs.lemmas.Bool.{cases_Bool, and_parts, and_from, ltb-true, lt-ltb, false≢true, true≢false, not-true}
+use Rattle.std.proofs.lemmas.Bool.{and_parts, and_from, ltb-true, lt-ltb, false≢true, not-true}
 use Rattle.std.proofs.lemmas.List.FromFn.{get_or-range_with_len, length-range_with_len}
 use Rattle.dt_bits.specs.Bits.{width}
-use Rattle.dt_bits.specs.Ops.{arity_of}
 use Rattle.dt_domain.specs.Domain.{DomainOps}
 use Rattle.dt_terms.specs.declared.term.Term.{Term}
 use Rattle.dt_terms.specs.declared.term.Term.TheVariants.{Choice, Node}
 use Rattle.dt_terms.specs.Terms.{term_at, choices_of}
 use Rattle.dt_box.specs.declared.step.Step.{Step}
 use Rattle.dt_box.specs.declared.step.Step.TheVariants.{Forward, Backward}
-use Rattle.dt_box.specs.Cells.{cell_at}
 use Rattle.dt_box.specs.Steps.{IsStep, IsNodeTerm, HasPlace}
-use Rattle.dt_box.specs.Stillness.{HasNoEmpty, IsSettled, IsStill, tells}
+use Rattle.dt_box.specs.Stillness.{IsSettled, tells}
 use Rattle.dt_check.specs.Trials.{IsTry}
 use Rattle.dt_check.specs.Tests.{is_node, arity_at, is_step, is_still_at, is_settled, is_try}
 

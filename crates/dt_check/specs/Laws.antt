@@ -1,5 +1,5 @@
 -- What the checker's verdicts say, over trees.
-use Rattle.std.specs.Prelude.{◌≡◌, ◌↔◌, ◌+◌, ◌<◌, ◌≤◌, ◌^◌, ℕ, Bool, true, false, List, length}
+use Rattle.std.specs.Prelude.{◌≡◌, ◌↔◌, ◌+◌, ◌≤◌, ◌^◌, ℕ, Bool, true, false, List}
 use Rattle.std.specs.List.{AllByRecursion}
 use Rattle.dt_domain.specs.Domain.{DomainOps, KnowsBit}
 use Rattle.dt_terms.specs.declared.term.Term.{Term}
@@ -7,7 +7,7 @@ use Rattle.dt_terms.specs.Problem.{ProblemData, IsProblem}
 use Rattle.dt_terms.specs.Terms.{AreTerms, choices_of}
 use Rattle.dt_terms.specs.Values.{IsAssignment, solves}
 use Rattle.dt_box.specs.declared.step.Step.{Step}
-use Rattle.dt_box.specs.Cells.{cell_at, AreCells, is_required, root_cells}
+use Rattle.dt_box.specs.Cells.{cell_at, AreCells, root_cells}
 use Rattle.dt_box.specs.Steps.{IsStep, after_step}
 use Rattle.dt_box.specs.Stillness.{IsSettled}
 use Rattle.dt_box.specs.Unknown.{unknown_bits, bits_of_choices, AreRequiredKnown}

@@ -1,5 +1,5 @@
 -- What is tried at an item of a log: a value for each choice.
-use Rattle.std.specs.Prelude.{◌≡◌, ℕ, ◌<◌, Bool, true, false, List, [], ◌∷◌, length, map, slice_index, slice_set, unwrap_or, if◌then◌else◌}
+use Rattle.std.specs.Prelude.{◌≡◌, ℕ, ◌<◌, false, List, [], ◌∷◌, length, map, slice_index, slice_set, unwrap_or}
 use Rattle.std.specs.List.{AllByRecursion}
 use Rattle.dt_domain.specs.Domain.{DomainOps, Holds}
 use Rattle.dt_terms.specs.declared.term.Term.{Term}

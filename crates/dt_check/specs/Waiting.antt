@@ -1,5 +1,5 @@
 -- The cells of the trees that wait, from one list of cells and a trail.
-use Rattle.std.specs.Prelude.{◌≡◌, ℕ, ◌<◌, ◌≤◌, Bool, true, false, Option, Some, None, List, [], ◌∷◌, length, map, take}
+use Rattle.std.specs.Prelude.{◌≡◌, ℕ, ◌<◌, ◌≤◌, true, Option, Some, None, List, [], ◌∷◌, length, map, take}
 use Rattle.std.specs.List.{AllByRecursion}
 use Rattle.dt_domain.specs.Domain.{DomainOps}
 use Rattle.dt_terms.specs.declared.term.Term.{Term}

@@ -1,7 +1,6 @@
-use Rattle.std.proofs.Common.{◌≡◌, ℕ, ◌+◌, ◌<◌, List, [], length, drop, reverse, sym, ap, ◌∙◌, subst, arith}
-use Rattle.dt_log.specs.declared.line.Line.{Line}
+use Rattle.std.proofs.Common.{◌≡◌, ℕ, ◌+◌, ◌<◌, List, length, drop, reverse, sym, ap, ◌∙◌, subst, arith}
 use Rattle.dt_check.specs.declared.checker.Finding.TheVariants.{Passed, Ended, Refused}
-use Rattle.dt_check.specs.Reading.{Reading, reading, after_line, end_verdict, at_first, verdict_of}
+use Rattle.dt_check.specs.Reading.{Reading, after_line, end_verdict, at_first, verdict_of}
 use Rattle.dt_check.specs.Waiting.{waiting}
 use Rattle.dt_check.specs.Checking.{state_of, reading_at, IsFound}
 use Rattle.dt_check.proofs.Loop.{Owed, owed_none, owed_past, owed_next, owed_begun, verdict_begun, line_passed, line_refused, line_ended}

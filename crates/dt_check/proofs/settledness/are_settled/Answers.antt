@@ -1,4 +1,4 @@
-use Rattle.std.proofs.Common.{◌≡◌, sym}
+use Rattle.std.proofs.Common.{sym}
 use Rattle.dt_check.proofs.Testing.{settled_test}
 use Rattle.dt_check.proofs.Sweeping.{some_empty, some_step}
 use Rattle.dt_check.proofs.settledness.are_settled.Goals as goal

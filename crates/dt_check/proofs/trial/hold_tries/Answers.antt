@@ -1,4 +1,4 @@
-use Rattle.std.proofs.Common.{◌≡◌, sym, arith}
+use Rattle.std.proofs.Common.{sym, arith}
 use Rattle.dt_check.specs.Tests.{is_try}
 use Rattle.dt_check.proofs.Testing.{all_from}
 use Rattle.dt_check.proofs.trial.hold_tries.Goals as goal

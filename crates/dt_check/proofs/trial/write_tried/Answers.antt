@@ -1,4 +1,4 @@
-use Rattle.std.proofs.Common.{◌≡◌, sym, ◌∙◌, arith, length-set}
+use Rattle.std.proofs.Common.{sym, ◌∙◌, length-set}
 use Rattle.dt_check.proofs.Overwriting.{next_try, last_try}
 use Rattle.dt_check.proofs.trial.write_tried.Goals as goal
 

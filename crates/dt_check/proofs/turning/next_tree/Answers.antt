@@ -1,4 +1,4 @@
-use Rattle.std.proofs.Common.{◌≡◌, ℕ, ◌∷◌, true, List, length, reverse, sym, ap, ◌∙◌, subst, take}
+use Rattle.std.proofs.Common.{true, length, reverse, sym, ap, ◌∙◌, subst}
 use Rattle.dt_box.specs.Trails.{back, IsKept}
 use Rattle.dt_box.specs.Steps.{after_bit}
 use Rattle.dt_check.specs.Waiting.{Stacked, waiting}

@@ -1,4 +1,4 @@
-use Rattle.std.proofs.Common.{◌≡◌, ℕ, sym, subst, reverse, Option}
+use Rattle.std.proofs.Common.{ℕ, sym, subst, reverse, Option}
 use Rattle.std.specs.Prelude.{IfSome}
 use Rattle.dt_check.specs.declared.pending.Pending.{Pending}
 use Rattle.dt_check.specs.Waiting.{IsNext, IsBegun}

@@ -1,6 +1,3 @@
-use Rattle.std.proofs.Common.{ap, sym, subst}
-use Rattle.dt_check.specs.Waiting.{Stacked, AtSplits}
-use Rattle.dt_check.specs.Checking.{state_of}
 use Rattle.dt_check.proofs.Checking.{state_begun}
 use Rattle.dt_check.proofs.checker.Checker.new.Goals as goal
 

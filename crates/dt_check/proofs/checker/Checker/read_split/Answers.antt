@@ -1,4 +1,4 @@
-use Rattle.std.proofs.Common.{◌≡◌, ℕ, ◌+◌, sym, subst, Option}
+use Rattle.std.proofs.Common.{ℕ, ◌+◌, sym, subst, Option}
 use Rattle.dt_log.specs.declared.line.Line.TheVariants.{Split}
 use Rattle.dt_check.specs.declared.pending.Pending.{Pending}
 use Rattle.dt_check.specs.declared.checker.Finding.TheVariants.{Passed}

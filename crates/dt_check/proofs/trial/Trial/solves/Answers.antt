@@ -1,4 +1,4 @@
-use Rattle.std.proofs.Common.{◌≡◌, sym, subst}
+use Rattle.std.proofs.Common.{sym, subst}
 use Rattle.dt_terms.specs.Terms.{AreTerms}
 use Rattle.dt_terms.specs.Values.{IsAssignment}
 use Rattle.dt_check.specs.Trials.{IsTry, tried}
