@@ -21,7 +21,9 @@
 mod causing;
 mod check;
 mod checker;
+mod evaluation;
 mod laws;
+mod marks;
 mod pending;
 mod settledness;
 mod trial;
@@ -29,6 +31,7 @@ mod turning;
 mod verdict;
 
 pub use check::check_log;
+pub use evaluation::Evaluation;
 pub use laws::{decided_trials_solve, records_are_short, steps_keep_bits, verdicts_are_exact};
 pub use pending::Pending;
 pub use trial::{Trial, pick_of, write_picks, write_tried};
