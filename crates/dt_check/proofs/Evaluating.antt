@@ -1,9 +1,10 @@
 -- Values that are in line are those of the assignment, and a value that changes puts only users out of line.
 use Rattle.std.proofs.Common.{◌≡◌, ◌≢◌, ℕ, zero, suc, ◌+◌, ◌^◌, ◌<◌, ◌≤◌, Bool, true, false, ◌&&◌, ◌||◌, ltb, eqb, ◌⊎◌, inl, inr, List, [], ◌∷◌, ◌++◌, length, take, get_or, set, refl, sym, ap, ◌∙◌, subst, arith, length-set, get_or-set_same, get_or-set_other, get_or-take}
-use Rattle.std.specs.List.{list_any, replicate}
+use Rattle.std.specs.Prelude.{replicate}
+use Rattle.std.specs.List.{list_any}
 use Rattle.std.proofs.lemmas.Nat.{pow_pos}
 use Rattle.std.proofs.lemmas.Bool.{cases_eq, cases_lt, cases_Bool, eqb-true, false≢true, lt-ltb, eq-eqb, or_left, or_right, and_from}
-use Rattle.std.proofs.lemmas.List.{take_more, get_or_past}
+use Rattle.std.proofs.lemmas.List.{take_more, length-replicate, get_or-replicate}
 use Rattle.std.proofs.Math.Seq.{take-length}
 use Rattle.dt_bits.specs.Bits.{width}
 use Rattle.dt_bits.specs.Ops.{arity_of, value_of}
@@ -23,7 +24,7 @@ use Rattle.dt_box.specs.Steps.{IsNodeTerm}
 use Rattle.dt_box.specs.declared.step.Step.TheVariants.{Forward}
 use Rattle.dt_box.specs.Watching.{users_of}
 use Rattle.dt_box.proofs.Watching.{near_origin, place_of}
-use Rattle.dt_check.specs.Marks.{AreMarked}
+use Rattle.dt_check.specs.Marks.{AreMarked, HasNone}
 use Rattle.dt_check.specs.Evaluating.{value_among, IsInLine, IsSeenTo, AreValues, AreSeenTo, AreSeenToBut, AreNumbers}
 
 -- a value, of equal bits
@@ -109,7 +110,7 @@ fit_set terms values u v h f t l = by_place (cases_eq t u)
 
 are_set : (terms : List Term) (values : List ℕ) (old new : List Bool) (u v : ℕ) → AreValues terms values old → length new ≡ length old → v < 2 ^ bits_at terms u
     → AreValues terms (set values u v) new
-are_set terms values old new u v h n f = record { count = length-set values u v ∙ h.count; marks = n ∙ h.marks; fit = fit_set terms values u v h.fit f }
+are_set terms values old new u v h n f = record { count = length-set values u v ∙ h.count; marks_count = n ∙ h.marks_count; fit = fit_set terms values u v h.fit f }
 
 -- a node that uses a term is among its users
 user_at : (terms : List Term) (u t : ℕ) → t < length terms → uses (term_at terms t) u ≡ true → t ≢ u
@@ -153,7 +154,7 @@ but_one terms values marks u h = record { are = h.are; each = λ t l n. h.each t
 -- a term's mark is taken
 pub unmarked_one : (terms : List Term) (values : List ℕ) (marks : List Bool) (u : ℕ) → AreSeenTo terms values marks → AreSeenToBut terms values (set marks u false) u
 unmarked_one terms values marks u h = record {
-  are = record { count = h.are.count; marks = length-set marks u false ∙ h.are.marks; fit = h.are.fit };
+  are = record { count = h.are.count; marks_count = length-set marks u false ∙ h.are.marks_count; fit = h.are.fit };
   each = λ t l n. either t n (h.each t l);
 }
   where
@@ -259,6 +260,19 @@ zeros_are terms = record {
   count = length-replicate (length (choices_of terms)) 0;
   fit = λ k l.
       subst (λ n. n < 2 ^ bits_at terms (get_or (choices_of terms) k 0))
-      (sym (get_or-replicate (length (choices_of terms)) 0 k 0 (omega (arith, length-replicate (length (choices_of terms)) 0))))
+      (sym (get_or-replicate (length (choices_of terms)) k 0 0 (omega (arith, length-replicate (length (choices_of terms)) 0))))
       (pow_pos (bits_at terms (get_or (choices_of terms) k 0)));
 }
+
+-- the values of an assignment, where nothing is marked
+pub are_first : (terms : List Term) (numbers values : List ℕ) (marks : List Bool) → AreTerms terms → IsAssignment terms numbers → values ≡ values_of terms numbers → marks ≡ replicate (length terms) false
+    → AreValues terms values marks × ((t : ℕ) → t < length terms → IsInLine terms values t) × HasNone marks 0 (length terms)
+are_first terms numbers values marks right i e m = (
+  record {
+    count = ap length e ∙ length-values_of terms numbers;
+    marks_count = ap length m ∙ length-replicate (length terms) false;
+    fit = subst (AreFit terms) (sym e) (values_fit terms numbers right i);
+  },
+  λ t l. subst (λ (xs : List ℕ). IsInLine terms xs t) (sym e) (in_line_first terms right numbers t l),
+  λ n k l. ap (λ (xs : List Bool). get_or xs n false) m ∙ get_or-replicate (length terms) n false false l,
+)

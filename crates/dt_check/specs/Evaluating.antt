@@ -26,7 +26,7 @@ IsSeenTo terms values marks t = (slice_index_or marks t false ≡ true) ⊎ IsIn
 -- values of the terms, each of its width, and a mark for each
 pub record AreValues (terms : List Term) (values : List ℕ) (marks : List Bool) : Type 0 where
   pub count : length values ≡ length terms
-  pub marks : length marks ≡ length terms
+  pub marks_count : length marks ≡ length terms
   pub fit : AreFit terms values
 
 -- each term whose value isn't in line is marked, but for the one at position u

@@ -1,7 +1,7 @@
 ghost use Rattle.std.specs.Prelude.{◌≡◌, ◌==◌, ◌^◌, ◌<◌, All, length, slice_index, replicate, IfOk};
 ghost use Rattle.std.specs.List.{list_all};
-ghost use Rattle.dt_terms.specs.Terms.{AreTerms, bits_at, term_at};
-ghost use Rattle.dt_terms.specs.Values.{AreFit, bv_at};
+ghost use Rattle.dt_terms.specs.Terms.{AreTerms, bits_at, term_at, choices_of};
+ghost use Rattle.dt_terms.specs.Values.{AreFit, bv_at, values_of};
 ghost use Rattle.dt_check.specs.Evaluating.{value_among};
 
 use crate::marks::Marks;
@@ -70,7 +70,7 @@ pub struct Evaluation {
 }
 
 impl Evaluation {
-    ghost use Rattle.std.specs.Prelude.{◌≡◌, ◌≤◌, ◌<◌, ◌^◌, length, slice_index, slice_index_or, slice_set, true, false, IsTrue, IfOk};
+    ghost use Rattle.std.specs.Prelude.{◌≡◌, ℕ, ◌+◌, ◌≤◌, ◌<◌, ◌^◌, length, slice_index, slice_index_or, slice_set, false, IsTrue, IfOk};
     ghost use Rattle.dt_terms.specs.Terms.{AreTerms, bits_at, term_at, choices_of, is_choice};
     ghost use Rattle.dt_terms.specs.Values.{IsAssignment, solves, values_of};
     ghost use Rattle.dt_box.specs.Watching.{watches_of};
