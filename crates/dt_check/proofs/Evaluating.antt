@@ -1,10 +1,11 @@
 -- Values that are in line are those of the assignment, and a value that changes puts only users out of line.
-use Rattle.std.proofs.Common.{◌≡◌, ◌≢◌, ℕ, zero, suc, ◌+◌, ◌^◌, ◌<◌, ◌≤◌, Bool, true, false, ◌&&◌, ◌||◌, ltb, eqb, ◌⊎◌, inl, inr, List, [], ◌∷◌, ◌++◌, length, take, get_or, set, refl, sym, ap, ◌∙◌, subst, arith, length-set, get_or-set_same, get_or-set_other, get_or-take}
+use Rattle.std.proofs.Common.{◌≡◌, ◌≢◌, ℕ, zero, suc, ◌+◌, ◌^◌, ◌<◌, ◌≤◌, Bool, true, false, ◌&&◌, ◌||◌, ltb, eqb, ◌⊎◌, inl, inr, ⊎_elim, List, [], ◌∷◌, ◌++◌, length, take, get_or, set, refl, sym, ap, ◌∙◌, subst, arith, length-set, get_or-set_same, get_or-set_other, get_or-take}
 use Rattle.std.specs.Prelude.{replicate}
-use Rattle.std.specs.List.{list_any}
+use Rattle.std.specs.List.{list_any, range_with_len}
 use Rattle.std.proofs.lemmas.Nat.{pow_pos}
-use Rattle.std.proofs.lemmas.Bool.{cases_eq, cases_lt, cases_Bool, eqb-true, false≢true, lt-ltb, eq-eqb, or_left, or_right, and_from}
-use Rattle.std.proofs.lemmas.List.{take_more, length-replicate, get_or-replicate}
+use Rattle.std.proofs.lemmas.Bool.{cases_eq, cases_lt, cases_Bool, eqb-true, ltb-true, false≢true, or_cases, and_parts, lt-ltb, eq-eqb, or_left, or_right, and_from}
+use Rattle.std.proofs.lemmas.List.{get_or_default, take_more, length-replicate, get_or-replicate}
+use Rattle.std.proofs.lemmas.List.Elements.{filter_passes}
 use Rattle.std.proofs.Math.Seq.{take-length}
 use Rattle.dt_bits.specs.Bits.{width}
 use Rattle.dt_bits.specs.Ops.{arity_of, value_of}
@@ -23,7 +24,7 @@ use Rattle.dt_box.specs.Neighbours.{uses}
 use Rattle.dt_box.specs.Steps.{IsNodeTerm}
 use Rattle.dt_box.specs.declared.step.Step.TheVariants.{Forward}
 use Rattle.dt_box.specs.Watching.{users_of}
-use Rattle.dt_box.proofs.Watching.{near_origin, place_of}
+use Rattle.dt_box.proofs.Watching.{near_origin, place_of, user_in}
 use Rattle.dt_check.specs.Marks.{AreMarked, HasNone}
 use Rattle.dt_check.specs.Evaluating.{value_among, IsInLine, IsSeenTo, AreValues, AreSeenTo, AreSeenToBut, AreNumbers}
 
@@ -94,11 +95,6 @@ choice_in_line terms values t e = by_term (term_at terms t) refl
     by_term (Choice w) f = ap (value_among terms values t) (sym f)
     by_term (Node op a b c w) f = absurd (false≢true (ap is_choice (sym f) ∙ e))
 
-set_same : (xs : List ℕ) (i : ℕ) → i < length xs → set xs i (get_or xs i 0) ≡ xs
-set_same [] i l = absurd (omega arith)
-set_same (x ∷ xs) zero l = refl
-set_same (x ∷ xs) (suc i) l = ap (λ ys. x ∷ ys) (set_same xs i (omega arith))
-
 fit_set : (terms : List Term) (values : List ℕ) (u v : ℕ) → AreFit terms values → v < 2 ^ bits_at terms u → AreFit terms (set values u v)
 fit_set terms values u v h f t l = by_place (cases_eq t u)
   where
@@ -125,6 +121,35 @@ user_at terms u t l e n = by_near (near_origin terms u (Forward t) (l, is_node (
     by_near (inl f) = absurd (n f)
     by_near (inr f) = let p = place_of (λ m. eqb m t) (users_of terms u) f in (p.0, p.1, eqb-true (get_or (users_of terms u) p.0 0) t p.2)
 
+-- a node stands later than what it uses
+used_later : (terms : List Term) (u t : ℕ) → AreTerms terms → t < length terms → uses (term_at terms t) u ≡ true → u < t
+used_later terms u t h l e = by_term (term_at terms t) refl
+  where
+    by_place : (n j x : ℕ) → (j < n → x < t) → (ltb j n && eqb x u) ≡ true → u < t
+    by_place n j x before g = let q = and_parts (ltb j n) (eqb x u) g in subst (λ y. y < t) (eqb-true x u q.1) (before (ltb-true j n q.0))
+
+    by_term : (term : Term) → term_at terms t ≡ term → u < t
+    by_term (Choice w) f = absurd (false≢true (ap (λ x. uses x u) (sym f) ∙ e))
+    by_term (Node op a b c w) f =
+        let p = placed terms t op a b c w h l f in
+        ⊎_elim (by_place (arity_of op) 0 a p.a_before)
+        (λ (g : ((ltb 1 (arity_of op) && eqb b u) || (ltb 2 (arity_of op) && eqb c u)) ≡ true).
+        ⊎_elim (by_place (arity_of op) 1 b p.b_before) (by_place (arity_of op) 2 c p.c_before) (or_cases (ltb 1 (arity_of op) && eqb b u) _ g))
+        (or_cases (ltb 0 (arity_of op) && eqb a u) _ (ap (λ x. uses x u) (sym f) ∙ e))
+
+-- users stand later than what they use
+pub user_later : (terms : List Term) (u k : ℕ) → AreTerms terms → u < length terms → k < length (users_of terms u) → u < get_or (users_of terms u) k 0
+user_later terms u k h l m =
+    used_later terms u (get_or (users_of terms u) k 0) h (user_in terms u k m) (filter_passes (λ n. uses (term_at terms n) u) (range_with_len 0 (length terms)) k 0 m)
+
+-- the marks up to a term are as they were, where its users are marked
+pub marks_before : (terms : List Term) (u t : ℕ) (old new : List Bool) → AreTerms terms → u < length terms → AreMarked (users_of terms u) old new → t ≤ u → get_or new t false ≡ get_or old t false
+marks_before terms u t old new h l m i =
+    m.others t (λ k d j e.
+    let r = user_later terms u k h l j in
+    let f : get_or (users_of terms u) k 0 ≡ t = get_or_default (users_of terms u) k 0 d j ∙ e in
+    absurd (omega arith))
+
 -- where a value changes, and its users are marked, each term is marked or in line, but for that one
 pub changed_seen : (terms : List Term) (values : List ℕ) (old new : List Bool) (u v : ℕ) → AreSeenToBut terms values old u → v < 2 ^ bits_at terms u
     → AreMarked (users_of terms u) old new → AreSeenToBut terms (set values u v) new u
@@ -140,13 +165,6 @@ changed_seen terms values old new u v h f m = record {
     by_use : (t : ℕ) → t < length terms → t ≢ u → (uses (term_at terms t) u ≡ true) ⊎ (uses (term_at terms t) u ≡ false) → IsSeenTo terms (set values u v) new t
     by_use t l n (inl e) = let p = user_at terms u t l e n in inl (subst (λ x. get_or new x false ≡ true) p.2 (m.marked p.0 0 p.1))
     by_use t l n (inr e) = by_before t n e (h.each t l n)
-
--- where it doesn't change, nothing is to be marked
-pub kept_seen : (terms : List Term) (values : List ℕ) (marks : List Bool) (u v : ℕ) → AreSeenToBut terms values marks u → u < length terms → get_or values u 0 ≡ v
-    → (set values u v ≡ values) × AreSeenToBut terms (set values u v) marks u
-kept_seen terms values marks u v h l e =
-    let s = ap (set values u) (sym e) ∙ set_same values u (omega (arith, h.are.count)) in
-    (s, subst (λ xs. AreSeenToBut terms xs marks u) (sym s) h)
 
 pub but_one : (terms : List Term) (values : List ℕ) (marks : List Bool) (u : ℕ) → AreSeenTo terms values marks → AreSeenToBut terms values marks u
 but_one terms values marks u h = record { are = h.are; each = λ t l n. h.each t l }
@@ -181,6 +199,14 @@ choices_kept terms values u v t l e c = either (cases_eq t u)
     either : (t ≡ u) ⊎ (t ≡ u → ⊥) → get_or (set values u v) t 0 ≡ get_or values t 0
     either (inl g) = ap (λ x. get_or (set values u v) x 0) g ∙ get_or-set_same values u v 0 l ∙ by_term (term_at terms t) refl g
     either (inr n) = get_or-set_other values u t v 0 n
+
+-- a term before which none is marked loses its mark
+pub none_before : (marks : List Bool) (u n : ℕ) → u < length marks → HasNone marks 0 u → n < u + 1 → get_or (set marks u false) n false ≡ false
+none_before marks u n l h m = either (cases_eq n u)
+  where
+    either : (n ≡ u) ⊎ (n ≡ u → ⊥) → get_or (set marks u false) n false ≡ false
+    either (inl e) = ap (λ k. get_or (set marks u false) k false) e ∙ get_or-set_same marks u false false l
+    either (inr d) = get_or-set_other marks u n false false d ∙ h n (omega arith) (omega (arith, d))
 
 -- one more choice gets its number
 pub numbers_more : (terms : List Term) (numbers values : List ℕ) (k u v : ℕ) → length values ≡ length terms → k < length (choices_of terms) → u ≡ get_or (choices_of terms) k 0 → v ≡ get_or numbers k 0
@@ -260,7 +286,7 @@ zeros_are terms = record {
   count = length-replicate (length (choices_of terms)) 0;
   fit = λ k l.
       subst (λ n. n < 2 ^ bits_at terms (get_or (choices_of terms) k 0))
-      (sym (get_or-replicate (length (choices_of terms)) k 0 0 (omega (arith, length-replicate (length (choices_of terms)) 0))))
+      (sym (get_or-replicate (length (choices_of terms)) k 0 0 (omega (arith, length-replicate {A = ℕ} (length (choices_of terms)) 0))))
       (pow_pos (bits_at terms (get_or (choices_of terms) k 0)));
 }
 

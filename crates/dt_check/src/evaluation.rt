@@ -142,6 +142,7 @@ impl Evaluation {
         ensures evaluated { IsEvaluated problem.now.terms self.new }
         ensures choices { (t : ℕ) → IsTrue (is_choice (term_at problem.now.terms t)) → slice_index self.new.values.items t ≡ slice_index self.old.values.items t }
     {
+        let _ = &problem.terms;
         let mut from = 0;
         'terms: while let Some(term) = self.marks.next(from) {
             self.evaluate(problem, watches, term as u32);
