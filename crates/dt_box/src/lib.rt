@@ -13,13 +13,20 @@
 //! lemmas to cite). What a step does depends on the cells of its node and that node's operands alone
 //! (`steps_are_local`): where an operator has no operand, the full domain of one bit is handed in.
 //!
-//! A cell takes what its domain takes. Only `root` and `copy` take memory. A step costs one call of
+//! `apply_kept` and `set_bit_kept` do what `apply` and `set_bit` do, and keep in a `Trail` what the
+//! cell was, exactly where the answer isn't `No`; `undo` gives exactly the cells and the trail of the
+//! time when the trail had that length (`specs/Trails.antt`). `Watches` lists exactly the nodes that
+//! use each term (`specs/Watching.antt`). `is_settled_since` is true exactly at settled cells, and
+//! looks only near what changed.
+//!
+//! A cell takes what its domain takes, and a kept change 16 bytes more. Only
+//! `root`, `copy`, `Watches::new` and the kept calls take memory. A step costs one call of
 //! the domain's `narrowed_forward` or `narrowed_backward`, and writes only where the cell changes;
 //! `unsettled` goes at most once over all steps. `dt_box_bench` measures them: over pairs, whose
 //! cells take 96 bytes, 4,000,000 terms of 80 bytes were built in 0.2 seconds and their root cells
 //! made in 0.3. `tests/steps.py` compares steps like those of a search with the same algorithm in C.
 //!
-//! Only tested, in programs above: that `root` and `copy` succeed where there is memory.
+//! Only tested, in programs above: that calls which take memory succeed where there is enough.
 #![tactic(auto)]
 
 mod cells;

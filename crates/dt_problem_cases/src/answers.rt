@@ -1,5 +1,5 @@
 //! Which call a case asks for, and its answer.
-use crate::{logs, problems, steps};
+use crate::{logs, problems, steps, trails};
 use dt_bits::NoMemory;
 use dt_script::{Calls, Case};
 use std::alloc::{AllocError, Global};
@@ -9,6 +9,8 @@ fn push_answer(alloc: Global, call: &str, case: Case, out: &mut String) -> Resul
     match call {
         "problem" => problems::answered(alloc, case, out),
         "cells" => steps::answered(alloc, case, out),
+        "trail" => trails::answered(alloc, case, out),
+        "users" => trails::users(alloc, case, out),
         "log" => logs::printed(alloc, case, out),
         "check known" => logs::answered(alloc, "known", case, out),
         "check range" => logs::answered(alloc, "range", case, out),

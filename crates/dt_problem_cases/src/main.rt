@@ -6,6 +6,8 @@
 //! |---|---|---|
 //! | `problem` | `problem` | an answer for each line, see `problems` |
 //! | `cells` | `problem`, `steps` | an answer for each step from the root cells, see `steps` |
+//! | `trail` | `problem`, `steps`, `undo N` | the same with a trail, and what undoing gives, see `trails` |
+//! | `users` | `problem` | for each term `users`, and the nodes that use it |
 //! | `log` | `log` | its printed text, or which line or item is wrong, and why |
 //! | `check known`, `check range`, `check pair` | `problem`, `log` | what the checker says over this domain, see `logs` |
 //!
@@ -18,6 +20,7 @@ mod logs;
 mod operators;
 mod problems;
 mod steps;
+mod trails;
 
 use crate::answers::Answers;
 use dt_edge::{FileShelf, OutSink, Sink};

@@ -15,7 +15,8 @@ use dt_script::Case;
 use dt_terms::Problem;
 use std::alloc::{AllocError, Global};
 
-fn changed_word(changed: Changed) -> &'static str {
+/// The word for what became of a cell.
+pub fn changed_word(changed: Changed) -> &'static str {
     match changed {
         Changed::No => "no",
         Changed::Narrowed => "narrowed",
@@ -25,7 +26,7 @@ fn changed_word(changed: Changed) -> &'static str {
 }
 
 /// The step of this name.
-fn step_named(name: &str, numbers: &[u128]) -> Step {
+pub fn step_named(name: &str, numbers: &[u128]) -> Step {
     let first = small(numbers, 0);
     if name == "forward" {
         Step::Forward { term: first }
@@ -136,7 +137,7 @@ fn push_tells(
 }
 
 /// Whether two lists of cells are the same.
-fn are_same(a: &Cells<Pair>, b: &Cells<Pair>) -> bool {
+pub fn are_same(a: &Cells<Pair>, b: &Cells<Pair>) -> bool {
     if a.len() != b.len() || a.len() > 0xffff {
         return false;
     }

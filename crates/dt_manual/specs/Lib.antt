@@ -1,0 +1,4 @@
+pub mod Entry
+pub mod Levels
+pub mod Sv39
+pub mod Verdicts
