@@ -9,5 +9,6 @@ pub mod Drafts
 pub mod Along
 pub mod Sweeping
 pub mod Overwriting
+pub mod Evaluating
 pub mod Checking
 pub mod Loop

@@ -20,6 +20,7 @@ use Rattle.dt_check.specs.declared.checker.Checker.{Checker}
 use Rattle.dt_check.specs.declared.checker.Finding.{Finding}
 use Rattle.dt_check.specs.declared.checker.Finding.TheVariants.{Passed, Ended, Refused}
 use Rattle.dt_check.specs.Reading.{Reading, reading, after_line, cause_of}
+use Rattle.dt_check.specs.Evaluating.{IsEvaluated}
 use Rattle.dt_check.specs.Waiting.{waiting, Stacked, CanBegin, AtSplits}
 
 -- the cells of the tree that is read, what they were before, the right trees that wait, the latest split
@@ -120,8 +121,8 @@ IsFound ops p claim line tries old Ended new =
     × (new.splits ≡ (after_line ops p.terms line (reading_at ops old tries)).splits)
     × (new.opened ≡ (after_line ops p.terms line (reading_at ops old tries)).opened)
 
--- it was made to try assignments of the choices of these terms
+-- it was made to try assignments of the choices of these terms, whose values it keeps up
 pub record HasRoom (terms : List Term) (trial : Trial) : Type 0 where
   pub watches : trial.watches ≡ watches_of terms
   pub numbers : length trial.numbers.items ≡ length (choices_of terms)
-  pub values : length trial.values.items ≡ length terms
+  pub evaluated : IsEvaluated terms trial.evaluation

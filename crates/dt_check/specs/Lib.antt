@@ -7,5 +7,7 @@ pub mod Accepting
 pub mod Waiting
 pub mod Laws
 pub mod Along
+pub mod Marks
+pub mod Evaluating
 pub mod Checking
 pub mod Words

@@ -13,7 +13,8 @@
 //! The checker keeps one list of cells and a trail, and for each right tree to come 16 bytes. A step
 //! costs one call of the domain; going back costs as much as the changes that it undoes; at a split of
 //! a record, and at its first end that was left, the steps beside the cells that changed since the
-//! cells were last settled are tried, and what was tried is evaluated once.
+//! cells were last settled are tried, and of the terms only those are evaluated that use a term whose
+//! value differs from the last trial's.
 //!
 //! Only tested, in programs above: that `check_log` succeeds where there is memory.
 #![tactic(auto)]
@@ -21,7 +22,9 @@
 mod causing;
 mod check;
 mod checker;
+mod evaluation;
 mod laws;
+mod marks;
 mod pending;
 mod settledness;
 mod trial;
@@ -29,6 +32,7 @@ mod turning;
 mod verdict;
 
 pub use check::check_log;
+pub use evaluation::Evaluation;
 pub use laws::{decided_trials_solve, records_are_short, steps_keep_bits, verdicts_are_exact};
 pub use pending::Pending;
 pub use trial::{Trial, pick_of, write_picks, write_tried};

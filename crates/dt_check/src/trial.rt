@@ -7,6 +7,7 @@ ghost use Rattle.dt_box.specs.Stillness.{HasNoEmpty};
 ghost use Rattle.dt_check.specs.Trials.{pick_at, picks, tried};
 ghost use Rattle.dt_check.specs.Tests.{is_try};
 
+use crate::evaluation::Evaluation;
 use dt_bits::NoMemory;
 use dt_box::{Cells, Watches};
 use dt_domain::Domain;
@@ -86,13 +87,13 @@ pub fn write_tried<D: Domain>(
     }
 }
 
-/// What is needed to try an assignment of a problem: which nodes use each term, and room for the
-/// numbers and for the values of the terms.
+/// What is needed to try assignments of a problem: which nodes use each term, room for the numbers, and
+/// the values of the terms under the assignment that was tried last.
 #[derive(Drop)]
 pub struct Trial {
     watches: Watches,
     numbers: Vec<u128>,
-    values: Vec<u128>,
+    evaluation: Evaluation,
 }
 
 // This many zeros.
@@ -116,14 +117,14 @@ impl Trial {
     ghost use Rattle.dt_check.specs.Tests.{is_try};
     ghost use Rattle.dt_check.specs.Checking.{HasRoom};
 
-    /// Made for the problem.
+    /// Made for the problem. It goes three times over the terms; nothing takes memory afterwards.
     pub fn new(alloc: Global, problem: &Problem) -> Result<Trial, NoMemory>
         ensures { IfOk result (λ trial. HasRoom problem.now.terms trial) }
     {
         Ok(Trial {
             watches: Watches::new(alloc, problem)?,
             numbers: zeros(alloc, problem.choice_count() as usize)?,
-            values: zeros(alloc, problem.terms.len())?,
+            evaluation: Evaluation::new(alloc, problem)?,
         })
     }
 
@@ -134,7 +135,9 @@ impl Trial {
         &self.watches
     }
 
-    /// Whether the assignment that these pairs and the picks of the cells give solves the problem.
+    /// Whether the assignment that these pairs and the picks of the cells give solves the problem. It
+    /// takes the pick of each choice, looks at the required terms, and evaluates the terms that use one
+    /// whose value differs from the last trial's.
     pub fn solves<D: Domain>(
         &mut self,
         problem: &Problem,
@@ -151,6 +154,6 @@ impl Trial {
         let _ = &problem.terms;
         let numbers = self.numbers.as_mut_slice();
         write_tried(problem, cells, tries, numbers);
-        problem.eval(numbers, &mut self.values)
+        self.evaluation.eval(problem, &self.watches, numbers)
     }
 }

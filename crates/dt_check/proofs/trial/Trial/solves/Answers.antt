@@ -7,8 +7,8 @@ use Rattle.dt_check.proofs.Testing.{each_from, try_is}
 use Rattle.dt_check.proofs.Bound.{tried_holds, held_assignment}
 use Rattle.dt_check.proofs.trial.Trial.solves.Goals as goal
 
-pub eval-requires-clause-values : goal.eval-requires-clause-values
-eval-requires-clause-values g c =
+pub eval-requires-clause-numbers : goal.eval-requires-clause-numbers
+eval-requires-clause-numbers g c =
     let D = g.row.D.Denot in
     let ops = g.D.Domain.ops in
     let terms = c.args.problem.now.terms in
