@@ -83,3 +83,18 @@ small_is x h = cond_both (eqb x 1) 1 0 (λ n. n ≡ x) (λ e. sym (eqb-true _ _ 
 pub chosen_cases : {X : Type 0} (b : Bool) (x y z : X) → cond b x y ≡ z → ((b ≡ true) × (x ≡ z)) ⊎ ((b ≡ false) × (y ≡ z))
 chosen_cases true x y z e = inl (refl, e)
 chosen_cases false x y z e = inr (refl, e)
+
+-- two tests, each of which passes where the other does, are the same
+pub same_test : (p q : Bool) → (p ≡ true → q ≡ true) → (q ≡ true → p ≡ true) → p ≡ q
+same_test true q h k = sym (h refl)
+same_test false true h k = k refl
+same_test false false h k = refl
+
+-- a test beside one that passes
+pub and_kept : (p q : Bool) → q ≡ true → (p && q) ≡ p
+and_kept p q e = grind arith
+
+-- the second of two that one or the other chooses
+pub or_chosen : (a b c d : Bool) → cond a c d ≡ true → (d ≡ true → b ≡ true) → (a || b) ≡ true
+or_chosen true b c d e g = refl
+or_chosen false b c d e g = g e

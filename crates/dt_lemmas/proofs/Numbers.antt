@@ -3,6 +3,7 @@ use Rattle.std.proofs.Common.{◌≡◌, ℕ, zero, suc, ◌+◌, ◌<◌, ◌�
 use Rattle.std.proofs.lemmas.Bool.{and_parts, cases_eq, cases_lt, eq-eqb, ne_eqb, lt-ltb, le-ltb, le-leb, lt-leb, eqb-true}
 use Rattle.std.proofs.lemmas.Nat.{and_assoc}
 use Rattle.std.specs.Int.Bits.{and_self}
+use Rattle.dt_lemmas.proofs.Booleans.{same_test}
 
 -- ---- tests of all numbers in a range
 
@@ -42,12 +43,7 @@ turn_le a b = ⊎_elim
     (cases_lt b a)
 
 pub eqb_turned : (x y : ℕ) → eqb x y ≡ eqb y x
-eqb_turned x y = cond_turn (eqb x y) (eqb y x) (λ e. eq-eqb y x (sym (eqb-true x y e))) (λ e. eq-eqb x y (sym (eqb-true y x e)))
-  where
-    cond_turn : (p q : Bool) → (p ≡ true → q ≡ true) → (q ≡ true → p ≡ true) → p ≡ q
-    cond_turn true q h k = sym (h refl)
-    cond_turn false true h k = k refl
-    cond_turn false false h k = refl
+eqb_turned x y = same_test (eqb x y) (eqb y x) (λ e. eq-eqb y x (sym (eqb-true x y e))) (λ e. eq-eqb x y (sym (eqb-true y x e)))
 
 pub and_twice : (x m : ℕ) → bit_and (bit_and x m) m ≡ bit_and x m
 and_twice x m = and_assoc m x m ∙ ap (bit_and x) (and_self m)

@@ -1,6 +1,6 @@
 -- Options and results.
-use Rattle.std.proofs.Common.{◌≡◌, Bool, true, false, cond, Option, Result, Ok, Err, refl, Some, None}
-use Rattle.std.specs.Prelude.{IfSome, IfOk}
+use Rattle.std.proofs.Common.{◌≡◌, Bool, true, false, cond, Option, Result, Ok, Err, refl, sym, subst, Some, None}
+use Rattle.std.specs.Prelude.{IfSome, IsSomeAnd, IfOk}
 use Rattle.std.specs.Option.{is_some, option_map}
 
 -- ---- a fact of the value that is there
@@ -34,6 +34,15 @@ at_some P (Some y) x h e = let same : y ≡ x = cc in rw (← same) h
 pub mapped_some : {X Y : Type 0} (P : Y → Type 0) (f : X → Y) (o : Option X) → ((x : X) → o ≡ Some x → P (f x)) → IfSome (option_map f o) P
 mapped_some P f None h = tt
 mapped_some P f (Some x) h = h x refl
+
+-- what a function makes of the value that is there
+pub made_some : {X Y : Type 0} (P : X → Type 0) (Q : Y → Type 0) (o : Option X) (f : X → Y) → IfSome o P → ((x : X) → P x → Q (f x)) → IfSome (option_map f o) Q
+made_some P Q None f h k = tt
+made_some P Q (Some x) f h k = k x h
+
+-- a fact of the value that is there, where none breaks it
+pub unbroken : {X : Type 0} (o : Option X) (x : X) (P : X → Type 0) → o ≡ Some x → (IsSomeAnd o P → ⊥) → P x → ⊥
+unbroken {X = X} o x P at none p = none (subst (λ (q : Option X). IsSomeAnd q P) (sym at) p)
 
 pub guard_some : {X : Type 0} (b : Bool) (o : Option X) (x : X) → cond b o None ≡ Some x → (b ≡ true) × (o ≡ Some x)
 guard_some true o x e = (refl, e)

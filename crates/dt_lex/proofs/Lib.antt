@@ -11,3 +11,5 @@ pub mod Orders
 pub mod Blocks
 pub mod NameWords
 pub mod Entries
+pub mod Fronts
+pub mod Rows

@@ -113,7 +113,7 @@ accepted_address d a = let p = and_parts _ _ (header_range d a).1 in (leb-true 8
 
 -- ---- rules
 
-same_width : (a : Option ℕ) (b : ℕ) → IsSome a → differs a (Some b) ≡ false → a ≡ Some b
+pub same_width : (a : Option ℕ) (b : ℕ) → IsSome a → differs a (Some b) ≡ false → a ≡ Some b
 same_width (Some a) b p e = ap (λ (n : ℕ). Some n) (eqb-true a b (not-false (eqb a b) e))
 same_width None b p e = absurd (false≢true p)
 

@@ -23,7 +23,7 @@ place (suc (suc (suc (suc zero)))) i = LegalContext i
 place (suc (suc (suc (suc (suc zero))))) i = LegalAccess i
 place (suc (suc (suc (suc (suc (suc g)))))) i = Node i
 
-itself : (q : Place) → place (group_of q) (index_of q) ≡ q
+pub itself : (q : Place) → place (group_of q) (index_of q) ≡ q
 itself Header = refl
 itself (Reg i) = refl
 itself (Input i) = refl

@@ -9,6 +9,13 @@ use Rattle.dt_model.specs.declared.model.Named.{Named}
 use Rattle.dt_model.specs.ModelData.{Tree, value, reg, input, var, apply1, apply2, apply3}
 use Rattle.dt_model.specs.Widths.{Scope, is_constant, width_at, fitted, tree_width, mismatch, out_of_range, has_unknown, has_mismatch, has_bad_range, HasArities}
 
+-- what fits together is something
+pub fitted_parts : (op : Op) (a b c : Option ℕ) → IsSome (fitted op a b c) → IsSome a × IsSome b × IsSome c
+fitted_parts op (Some a) (Some b) (Some c) h = (refl, refl, refl)
+fitted_parts op None b c h = absurd (false≢true h)
+fitted_parts op (Some a) None c h = absurd (false≢true h)
+fitted_parts op (Some a) (Some b) None h = absurd (false≢true h)
+
 below_fits : (a b : ℕ) → ltb a (b + 1) ≡ false → ltb b a ≡ true
 below_fits a b e = lt-ltb b a (let h : b + 1 ≤ a = ltb-false a (b + 1) e in omega arith)
 

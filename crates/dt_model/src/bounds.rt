@@ -12,8 +12,8 @@ pub fn word_bytes(model: &Accepted) -> u32
     model.model().word / 8
 }
 
-/// The first address that a model doesn't have.
-fn address_end(model: &Accepted) -> u128
+/// The first address that a model doesn't have: 2 to the width of its addresses.
+pub fn address_end(model: &Accepted) -> u128
     ensures { result ≡ 2 ^ (accepted_data model.now).address }
 {
     1 << model.model().address

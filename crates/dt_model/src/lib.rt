@@ -43,7 +43,7 @@ mod set;
 mod surveying;
 
 pub use accepted::Accepted;
-pub use bounds::{bounds_fit, word_bytes};
+pub use bounds::{address_end, bounds_fit, word_bytes};
 pub use expr::Expr;
 pub use model::{Act, Model, Named, Node};
 pub use name_table::NameTable;

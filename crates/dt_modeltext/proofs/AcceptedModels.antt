@@ -32,10 +32,7 @@ use Rattle.dt_lex.proofs.NameWords.{same_self}
 use Rattle.dt_modeltext.proofs.PrintedExprs.{IsFound, IsFoundPast, AreSmall, IsPrintable}
 use Rattle.dt_modeltext.proofs.PrintedLines.{AreKnown, IsShort, IsSized, CanAct}
 use Rattle.dt_modeltext.proofs.RoundTrip.{CanPrint, printed_short, printed_length, printed_again}
-
--- a fact of the element at a place, where none at the place breaks it
-unbroken : {X : Type 0} (o : Option X) (x : X) (P : X → Type 0) → o ≡ Some x → (IsSomeAnd o P → ⊥) → P x → ⊥
-unbroken {X = X} o x P at none p = none (subst (λ (q : Option X). IsSomeAnd q P) (sym at) p)
+use Rattle.dt_lemmas.proofs.Options.{unbroken}
 
 -- ---- names
 

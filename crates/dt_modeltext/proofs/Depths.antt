@@ -2,7 +2,7 @@
 use Rattle.std.proofs.Common.{◌≡◌, ℕ, ◌+◌, ◌-◌, ◌≤◌, Bool, true, false, ◌||◌, cond, List, [], ◌∷◌, ◌++◌, Some, refl, sym, ap, ◌∙◌, append_assoc, arith, inl, inr}
 use Rattle.std.specs.Prelude.{codes}
 use Rattle.std.specs.Str.{bytes_eq}
-use Rattle.std.proofs.lemmas.Bool.{cases_Bool, cond-false, ltb-false}
+use Rattle.std.proofs.lemmas.Bool.{cases_Bool, cond-false, ltb-false, or_parts}
 use Rattle.std.proofs.lemmas.Slice.Eq.{bytes_eq-Decides}
 use Rattle.dt_bits.specs.declared.op.Op.{Op}
 use Rattle.dt_bits.specs.declared.op.Op.TheVariants.{Const, Not, And, Or, Xor, Add, Sub, Slice, Concat, SignExt, Shl, Shr, Eq, Ltu, Ite}
@@ -22,10 +22,6 @@ unfoldable left : ℕ → Tokens → ℕ
 left n [] = n
 left n (t ∷ ts) = left (unclosed n t) ts
 
-or_false : (a b : Bool) → (a || b) ≡ false → (a ≡ false) × (b ≡ false)
-or_false true b h = absurd cc
-or_false false b h = (refl, h)
-
 left_append : (n : ℕ) (ts us : Tokens) → left n (ts ++ us) ≡ left (left n ts) us
 unfolding left
 left_append n [] us = refl
@@ -35,11 +31,11 @@ left_append n (t ∷ ts) us = left_append (unclosed n t) ts us
 behind : (most n : ℕ) (ts us : Tokens) → opens_above most n (ts ++ us) ≡ false → opens_above most (left n ts) us ≡ false
 unfolding left opens_above
 behind most n [] us h = h
-behind most n (t ∷ ts) us h = behind most (unclosed n t) ts us (or_false _ _ h).1
+behind most n (t ∷ ts) us h = behind most (unclosed n t) ts us (or_parts _ _ h).1
 
 first_fits : (most n : ℕ) (t : List ℕ) (ts : Tokens) → opens_above most n (t ∷ ts) ≡ false → unclosed n t ≤ most
 unfolding opens_above
-first_fits most n t ts h = ltb-false most (unclosed n t) (or_false _ _ h).0
+first_fits most n t ts h = ltb-false most (unclosed n t) (or_parts _ _ h).0
 
 -- ---- tokens that open and close nothing
 
@@ -142,7 +138,7 @@ record Inside (most n : ℕ) (rest : Tokens) : Type 0 where
 inside : (most n : ℕ) (op : Op) (os us after : Tokens) → SpellsOperator op os → opens_above most n ((codes "(" ∷ (os ++ us)) ++ after) ≡ false → Inside most n (us ++ after)
 unfolding opens_above
 inside most n op os us after word h =
-    let parts = or_false _ _ h in
+    let parts = or_parts _ _ h in
     let regrouped : opens_above most (n + 1) (os ++ (us ++ after)) ≡ false = ap (opens_above most (n + 1)) (sym (append_assoc os us after)) ∙ parts.1 in
     record {
       fits = ltb-false most (n + 1) parts.0;
@@ -191,7 +187,7 @@ left_fits : (most n : ℕ) (ts us : Tokens) → n ≤ most → opens_above most 
 unfolding left opens_above
 left_fits most n [] us le flat = le
 left_fits most n (t ∷ ts) us le flat =
-    let parts = or_false _ _ flat in
+    let parts = or_parts _ _ flat in
     left_fits most (unclosed n t) ts us (ltb-false most (unclosed n t) parts.0) parts.1
 
 pub is_shallow_in : (s : Positions) (e : Tree) (most : ℕ) (before ts after : Tokens) → Spells s e ts → opens_above most 0 (before ++ (ts ++ after)) ≡ false → depth e ≤ most

@@ -1,6 +1,7 @@
 -- One level of an expression.
 use Rattle.std.proofs.Common.{◌≡◌, ℕ, zero, suc, ◌-◌, ◌<◌, List, refl, ap, arith}
-use Rattle.dt_modeltext.specs.Expr.{Positions, first_by, atom_of, level, expr_at}
+use Rattle.dt_modeltext.specs.Expr.{Positions, atom_of, level, expr_at}
+use Rattle.dt_lex.specs.Frame.{first_by}
 
 pub at_depth : (s : Positions) (depth : ℕ) (ts : List (List ℕ)) → 0 < depth → expr_at s depth ts ≡ level s (expr_at s (depth - 1)) ts
 unfolding expr_at

@@ -16,9 +16,10 @@ use Rattle.dt_lex.specs.Names.{name_of}
 use Rattle.dt_lex.specs.Numeral.{number_of, digits_read}
 use Rattle.dt_model.specs.ModelData.{Tree, value, reg, input, var, apply1, apply2, apply3}
 use Rattle.dt_model.specs.Widths.{depth}
-use Rattle.dt_modeltext.specs.Expr.{Positions, Front, ◌>>=◌, small_of, decimal_of, is_colon, unknown, named, named_or, first_by, small_at, atom_of, constant_of, is_open, closing, closed, slice_at, counted_at, plain_of, operator_at, one_at, two_at, three_at, operands_at, applied_at, level, expr_at}
+use Rattle.dt_modeltext.specs.Expr.{Positions, small_of, decimal_of, is_colon, unknown, named, named_or, small_at, atom_of, constant_of, is_open, closing, closed, slice_at, counted_at, plain_of, operator_at, one_at, two_at, three_at, operands_at, applied_at, level, expr_at}
 use Rattle.dt_modeltext.proofs.LineArities.{bound}
 use Rattle.dt_modeltext.specs.Spelling.{SpellsOperator, SpellsAtom, Spells}
+use Rattle.dt_lex.specs.Frame.{Front, ◌>>=◌, first_by}
 
 abbrev Tokens : Type 0
 Tokens = List (List ℕ)

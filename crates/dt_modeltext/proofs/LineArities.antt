@@ -10,7 +10,7 @@ use Rattle.dt_bits.specs.Ops.{arity_of}
 use Rattle.dt_lex.specs.declared.name.Name.{Name}
 use Rattle.dt_lex.specs.Names.{name_of, IsName}
 use Rattle.dt_lex.specs.Numeral.{number_of}
-use Rattle.dt_lex.specs.Frame.{is_alone, given}
+use Rattle.dt_lex.specs.Frame.{is_alone, given, Front, ◌>>=◌, first_by, name_at, lone}
 use Rattle.dt_lex.proofs.Padded.{name_of_again}
 use Rattle.std.specs.List.{before_first, after_first}
 use Rattle.dt_model.specs.declared.model.Named.{Named}
@@ -18,9 +18,10 @@ use Rattle.dt_model.specs.ModelData.{Tree, NodeData, reg, input, var, apply1, ap
 use Rattle.dt_model.specs.Limits.{most_depth}
 use Rattle.dt_model.specs.Widths.{HasArities}
 use Rattle.dt_model.specs.Faults.{StepArities}
-use Rattle.dt_modeltext.specs.Expr.{Positions, Front, ◌>>=◌, decimal_of, is_colon, unknown, first_by, small_at, name_at, named, named_or, atom_of, constant_of, closed, closing, is_open, operator_at, one_at, two_at, three_at, operands_at, applied_at, level, expr_at}
+use Rattle.dt_modeltext.specs.Expr.{Positions, decimal_of, is_colon, unknown, small_at, named, named_or, atom_of, constant_of, closed, closing, is_open, operator_at, one_at, two_at, three_at, operands_at, applied_at, level, expr_at}
 use Rattle.dt_modeltext.specs.Act.{targets_at, let_at, read_at, branch_at, fault_at, done_at, act_at}
-use Rattle.dt_modeltext.specs.Line.{LineData, header, word, address, new_reg, new_input, new_var, context_rule, access_rule, new_node, ended, alone, lone, named_at, node_at, plain_line, rule_of, spelled}
+use Rattle.dt_modeltext.specs.Line.{LineData, header, word, address, new_reg, new_input, new_var, context_rule, access_rule, new_node, ended, alone, named_at, node_at, plain_line, rule_of, spelled}
+use Rattle.dt_lex.proofs.Fronts.{given_some}
 
 abbrev Tokens : Type 0
 Tokens = List (List ℕ)
@@ -174,10 +175,6 @@ pub alone_is : {X : Type 0} (P : X → Type 0) (x : X) (ts : Tokens) → P x →
 alone_is P x [] h = h
 alone_is P x (t ∷ ts) h = tt
 
-pub given_is : {X : Type 0} (P : X → Type 0) (b : Bool) (x : X) → P x → IfSome (given b x) P
-given_is P true x h = h
-given_is P false x h = tt
-
 whole_expr : (s : Positions) (ts : Tokens) → IfSome (lone (expr_at s most_depth ts)) HasArities
 whole_expr s ts =
     bound _ (expr_at s most_depth ts) _ (λ x is. alone_is HasArities x.0 x.1 (expr_arities s most_depth ts x is))
@@ -203,7 +200,7 @@ named_line f h ts = mapped_some LineHolds f (lone (named_at ts)) (λ n is. h n (
 plain_arities : (t : List ℕ) (ts : Tokens) → IfSome (plain_line t ts) LineHolds
 unfolding plain_line
 plain_arities t ts =
-    chosen_some LineHolds (bytes_eq t (codes "model")) _ _ (λ _. given_is LineHolds (is_alone (codes "1") ts) header tt)
+    chosen_some LineHolds (bytes_eq t (codes "model")) _ _ (λ _. given_some LineHolds (is_alone (codes "1") ts) header tt)
     (λ _. chosen_some LineHolds (bytes_eq t (codes "word")) _ _ (λ _. mapped_some LineHolds (λ w. word w) (lone (small_at ts)) (λ _ _. tt))
     (λ _. chosen_some LineHolds (bytes_eq t (codes "address")) _ _ (λ _. mapped_some LineHolds (λ a. address a) (lone (small_at ts)) (λ _ _. tt))
     (λ _. chosen_some LineHolds (bytes_eq t (codes "reg")) _ _ (λ _. named_line (λ n. new_reg n) (λ n h. h) ts)

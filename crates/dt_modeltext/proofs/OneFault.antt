@@ -14,27 +14,9 @@ use Rattle.dt_modeltext.specs.declared.fault.ModelFault.TheVariants as model
 use Rattle.dt_modeltext.specs.Entry.{Declared, origin_of}
 use Rattle.dt_modeltext.specs.Read.{reading, RefusesText, IsRefusedAt}
 use Rattle.dt_modeltext.specs.Fault.{line_of as model_line}
+use Rattle.dt_model.proofs.Compose.{place, itself}
 
 -- ---- places and refusals by their numbers
-
-place : ℕ → ℕ → Place
-place zero i = Header
-place (suc zero) i = Reg i
-place (suc (suc zero)) i = Input i
-place (suc (suc (suc zero))) i = Var i
-place (suc (suc (suc (suc zero)))) i = LegalContext i
-place (suc (suc (suc (suc (suc zero))))) i = LegalAccess i
-place (suc (suc (suc (suc (suc (suc g)))))) i = Node i
-
-itself : (p : Place) → place (group_of p) (index_of p) ≡ p
-unfolding place
-itself Header = refl
-itself (Reg i) = refl
-itself (Input i) = refl
-itself (Var i) = refl
-itself (LegalContext i) = refl
-itself (LegalAccess i) = refl
-itself (Node i) = refl
 
 numbered : ℕ → ModelRefusal
 numbered zero = NameTwice

@@ -14,6 +14,7 @@ use Rattle.dt_model.specs.declared.expr.Expr.{Expr}
 use Rattle.dt_model.specs.ModelData.{NodeData, tree_of, node_of, data_of}
 use Rattle.dt_model.specs.Faults.{node_scope}
 use Rattle.dt_modeltext.specs.Print.{node_text, in_parens, size_row, named_row, rule_row, node_row, printed}
+use Rattle.dt_lex.proofs.Rows.{rows-append}
 
 pub target_some : (nodes : List Node) (i : ℕ) (n : Node) → i < length nodes → n ≡ get_or nodes i n → node_text (map node_of nodes) i ≡ bytes_of n.name
 target_some nodes i n lt e =
@@ -33,18 +34,7 @@ parens_two out op a b = grind (arith, append_assoc, append-nil)
 pub parens_three : (out op a b c : List ℕ) → ((((out ++ 32 ∷ 40 ∷ op) ++ 32 ∷ a) ++ 32 ∷ b) ++ 32 ∷ c) ++ 41 ∷ [] ≡ out ++ 32 ∷ in_parens (op ∷ a ∷ b ∷ c ∷ [])
 parens_three out op a b c = grind (arith, append_assoc, append-nil)
 
--- the row of one more element
-pub rows_more : {X : Type 0} (row : X → List (List ℕ)) (xs : List X) (i : ℕ) (d : X) → i < length xs → text_of (map row (take (i + 1) xs)) ≡ text_of (map row (take i xs)) ++ row_text (row (get_or xs i d))
-rows_more {X = X} row xs i d lt =
-    ap (λ (ys : List X). text_of (map row ys)) (take_more xs i d lt)
-    ∙ ap text_of (map_push row (take i xs) (get_or xs i d))
-    ∙ flat_map-append row_text (map row (take i xs)) (row (get_or xs i d) ∷ [])
-    ∙ ap (λ (t : List ℕ). text_of (map row (take i xs)) ++ t) (append-nil (row_text (row (get_or xs i d))))
-
 -- ---- the whole text
-
-rows-append : (xs ys : List (List (List ℕ))) → text_of (xs ++ ys) ≡ text_of xs ++ text_of ys
-rows-append xs ys = flat_map-append row_text xs ys
 
 blocks_are : (a b c d e f : List (List (List ℕ))) → text_of (a ++ (b ++ (c ++ (d ++ (e ++ (f ++ (codes "end" ∷ []) ∷ [])))))) ≡ text_of a ++ (text_of b ++ (text_of c ++ (text_of d ++ (text_of e ++ (text_of f ++ codes "end\n")))))
 blocks_are a b c d e f =

@@ -11,7 +11,8 @@ use Rattle.dt_lex.specs.Printing.{is_plain, all_plain, IsWord}
 use Rattle.dt_lex.proofs.NameWords.{plain_append}
 use Rattle.dt_lex.proofs.Printed.{no_x, numeral_is, number_of-decimal, number_of-hex, IsWord-decimal, IsWord-hex}
 use Rattle.dt_model.specs.ModelData.{value}
-use Rattle.dt_modeltext.specs.Expr.{◌>>=◌, below_32, small_of, decimal_of, is_colon, constant_of}
+use Rattle.dt_modeltext.specs.Expr.{below_32, small_of, decimal_of, is_colon, constant_of}
+use Rattle.dt_lex.specs.Frame.{◌>>=◌}
 
 -- ---- numbers
 

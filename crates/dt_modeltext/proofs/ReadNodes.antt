@@ -11,7 +11,7 @@ use Rattle.dt_lemmas.proofs.Options.{at_some, at_ok, mapped_some, chosen_some}
 use Rattle.dt_lex.specs.declared.name.Name.{Name}
 use Rattle.dt_lex.specs.Names.{name_of}
 use Rattle.dt_lex.specs.Text.{lines_of, tokens_of}
-use Rattle.dt_lex.specs.Frame.{is_alone}
+use Rattle.dt_lex.specs.Frame.{is_alone, lone}
 use Rattle.dt_lex.specs.Sections.{may_follow}
 use Rattle.dt_lex.proofs.Entries.{reading_seen}
 use Rattle.dt_model.specs.ModelData.{Tree, NodeData}
@@ -21,11 +21,12 @@ use Rattle.dt_modeltext.specs.Fault.{Cause, form, too_deep}
 use Rattle.dt_modeltext.specs.Depth.{is_too_deep}
 use Rattle.dt_modeltext.specs.Expr.{Positions, small_at, expr_at}
 use Rattle.dt_modeltext.specs.Act.{act_at}
-use Rattle.dt_modeltext.specs.Line.{LineData, header, word, address, new_reg, new_input, new_var, context_rule, access_rule, new_node, ended, lone, node_name, node_names, named_at, node_at, plain_line, rule_of, spelled}
+use Rattle.dt_modeltext.specs.Line.{LineData, header, word, address, new_reg, new_input, new_var, context_rule, access_rule, new_node, ended, node_name, node_names, named_at, node_at, plain_line, rule_of, spelled}
 use Rattle.dt_modeltext.specs.Entry.{Entry, items, Declared, declared, sections, standing, node_in, declared_positions, entry_of, entry_at}
 use Rattle.dt_modeltext.specs.Read.{grammar, finished, reading}
-use Rattle.dt_modeltext.proofs.LineArities.{bound, alone_is, given_is}
+use Rattle.dt_modeltext.proofs.LineArities.{bound, alone_is}
 use Rattle.dt_modeltext.proofs.ReadModels.{finished_holds}
+use Rattle.dt_lex.proofs.Fronts.{given_some}
 
 abbrev Tokens : Type 0
 Tokens = List (List ℕ)
@@ -72,7 +73,7 @@ plain_gives : (t : List ℕ) (ts : Tokens) → IfSome (plain_line t ts) (Gives (
 unfolding plain_line
 plain_gives t ts =
     let Q = Gives (t ∷ ts) in
-    chosen_some Q (bytes_eq t (codes "model")) _ _ (λ is. given_is Q (is_alone (codes "1") ts) header (sym (no_node t (codes "model") ts refl is)))
+    chosen_some Q (bytes_eq t (codes "model")) _ _ (λ is. given_some Q (is_alone (codes "1") ts) header (sym (no_node t (codes "model") ts refl is)))
     (λ _. chosen_some Q (bytes_eq t (codes "word")) _ _ (λ is. mapped_some Q (λ w. word w) (lone (small_at ts)) (λ _ _. sym (no_node t (codes "word") ts refl is)))
     (λ _. chosen_some Q (bytes_eq t (codes "address")) _ _ (λ is. mapped_some Q (λ a. address a) (lone (small_at ts)) (λ _ _. sym (no_node t (codes "address") ts refl is)))
     (λ _. chosen_some Q (bytes_eq t (codes "reg")) _ _ (λ is. mapped_some Q (λ n. new_reg n) (lone (named_at ts)) (λ _ _. sym (no_node t (codes "reg") ts refl is)))

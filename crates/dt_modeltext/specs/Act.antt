@@ -4,7 +4,8 @@ use Rattle.std.specs.Str.{bytes_eq}
 use Rattle.dt_lex.specs.declared.name.Name.{Name}
 use Rattle.dt_model.specs.ModelData.{ActData, bind, read, branch, fault, done}
 use Rattle.dt_model.specs.Limits.{most_depth}
-use Rattle.dt_modeltext.specs.Expr.{◌>>=◌, unknown, Positions, Front, small_at, name_at, expr_at}
+use Rattle.dt_modeltext.specs.Expr.{unknown, Positions, small_at, expr_at}
+use Rattle.dt_lex.specs.Frame.{◌>>=◌, Front, name_at}
 
 -- the position of the first node of this name
 unfoldable pub target : Positions → Name → ℕ

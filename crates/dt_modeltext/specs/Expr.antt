@@ -10,11 +10,7 @@ use Rattle.dt_lex.specs.declared.name.Name.{Name}
 use Rattle.dt_lex.specs.Names.{name_of}
 use Rattle.dt_lex.specs.Numeral.{is_hex, number_of}
 use Rattle.dt_model.specs.ModelData.{Tree, value, reg, input, var, apply1, apply2, apply3}
-
-infixl 10 ◌>>=◌
-abbrev pub ◌>>=◌ : {A B : Type 0} → Option A → (A → Option B) → Option B
-None >>= f = None
-(Some x) >>= f = f x
+use Rattle.dt_lex.specs.Frame.{◌>>=◌, Front, first_by, name_at}
 
 -- ---- one token
 
@@ -64,20 +60,8 @@ atom_of s t = named_or s (constant_of t) (name_of t)
 
 -- ---- tokens from the front
 
--- what the front of some tokens spells, and the tokens after it
-abbrev pub Front : Type 0 → Type 0
-Front X = Option (X × List (List ℕ))
-
--- the first token, as f sees it
-abbrev pub first_by : {X : Type 0} → (List ℕ → Option X) → List (List ℕ) → Front X
-first_by f [] = None
-first_by f (t ∷ ts) = option_map (λ x. (x, ts)) (f t)
-
 abbrev pub small_at : List (List ℕ) → Front ℕ
 small_at ts = first_by small_of ts
-
-abbrev pub name_at : List (List ℕ) → Front Name
-name_at ts = first_by name_of ts
 
 abbrev pub is_open : List ℕ → Bool
 is_open t = bytes_eq t (codes "(")

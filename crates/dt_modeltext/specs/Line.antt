@@ -6,11 +6,11 @@ use Rattle.std.specs.Str.{bytes_eq}
 use Rattle.dt_lex.specs.declared.name.Name.{Name}
 use Rattle.dt_lex.specs.Names.{name_of}
 use Rattle.dt_lex.specs.Text.{tokens_of}
-use Rattle.dt_lex.specs.Frame.{is_alone, is_nothing, given}
+use Rattle.dt_lex.specs.Frame.{is_alone, is_nothing, given, lone, ◌>>=◌, Front, name_at}
 use Rattle.dt_model.specs.declared.model.Named.{Named}
 use Rattle.dt_model.specs.ModelData.{Tree, NodeData}
 use Rattle.dt_model.specs.Limits.{most_depth}
-use Rattle.dt_modeltext.specs.Expr.{◌>>=◌, Positions, Front, small_at, name_at, expr_at}
+use Rattle.dt_modeltext.specs.Expr.{Positions, small_at, expr_at}
 use Rattle.dt_modeltext.specs.Act.{act_at}
 
 pub data LineData : Type 0 where
@@ -28,9 +28,6 @@ pub data LineData : Type 0 where
 -- what is read where no token follows it
 abbrev pub alone : {X : Type 0} → X → List (List ℕ) → Option X
 alone x ts = given (is_nothing ts) x
-
-abbrev pub lone : {X : Type 0} → Front X → Option X
-lone r = r >>= λ x. alone x.0 x.1
 
 -- ---- names of nodes
 

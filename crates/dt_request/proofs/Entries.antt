@@ -6,7 +6,7 @@ use Rattle.std.proofs.lemmas.Bool.{and_parts, leb-true, ltb-true}
 use Rattle.std.proofs.lemmas.Option.{option_and_then_some}
 use Rattle.std.proofs.lemmas.List.{length_push, length-map, map_push}
 use Rattle.std.proofs.lemmas.List.Elements.{All-nil, All-cons, All-head, All-tail, All-push, All-weaker}
-use Rattle.dt_lemmas.proofs.Options.{chosen_ok, at_ok, at_some, some_if}
+use Rattle.dt_lemmas.proofs.Options.{chosen_ok, at_ok, at_some, some_if, made_some}
 use Rattle.dt_lemmas.proofs.Positions.{position_below}
 use Rattle.dt_lex.specs.declared.name.Name.{Name}
 use Rattle.dt_lex.specs.Names.{same_name, IsName}
@@ -42,7 +42,7 @@ use Rattle.dt_request.specs.Line.{spelled}
 use Rattle.dt_request.specs.Entry.{Declared, sections, standing, is_allowed, node_names, is_step, step_where, quantity_in, side_in, sides_in, pages_in, link_in, can_be, measured_in, demand_in, access_at, last_demands, entry_of, meaning}
 use Rattle.dt_request.specs.Draft.{nothing, with_demand, list_with, added}
 use Rattle.dt_request.proofs.Demands.{length_with, names_with}
-use Rattle.dt_request.proofs.Results.{known_ok, known_then, range_ok, then_ok, chained, mapped, itself}
+use Rattle.dt_request.proofs.Results.{known_ok, known_then, range_ok, then_ok, chained, itself}
 use Rattle.dt_request.proofs.Names.{HasNames, spelled_names, names_push}
 
 -- ---- one more demand
@@ -225,26 +225,26 @@ side_is : (d : ModelData) (so : Requests) (s : AskedSide) → IfSome (side_in d 
 side_is d so s =
     let at = position_of (access_names so.accesses) s.access in
     chained (λ a. at ≡ Some a) (IsSide d (length so.accesses)) at _ (itself at) (λ a e.
-    mapped (λ n. step_where is_read d s.node ≡ Some n) (IsSide d (length so.accesses)) (step_where is_read d s.node) _ (itself (step_where is_read d s.node)) (λ n f. (access_is so s.access a e, step_is is_read d s.node n f)))
+    made_some (λ n. step_where is_read d s.node ≡ Some n) (IsSide d (length so.accesses)) (step_where is_read d s.node) _ (itself (step_where is_read d s.node)) (λ n f. (access_is so s.access a e, step_is is_read d s.node n f)))
 
 sides_are : (d : ModelData) (so : Requests) (a b : AskedSide) → IfSome (sides_in d so a b) (λ x. IsSide d (length so.accesses) x.0 × IsSide d (length so.accesses) x.1)
 sides_are d so a b =
     chained (IsSide d (length so.accesses)) (λ x. IsSide d (length so.accesses) x.0 × IsSide d (length so.accesses) x.1) (side_in d so a) _ (side_is d so a) (λ x h.
-    mapped (IsSide d (length so.accesses)) (λ x. IsSide d (length so.accesses) x.0 × IsSide d (length so.accesses) x.1) (side_in d so b) _ (side_is d so b) (λ y k. (h, k)))
+    made_some (IsSide d (length so.accesses)) (λ x. IsSide d (length so.accesses) x.0 × IsSide d (length so.accesses) x.1) (side_in d so b) _ (side_is d so b) (λ y k. (h, k)))
 
 pages_are : (so : Requests) (a b : Name) → IfSome (pages_in so a b) (λ x. (x.0 < length so.accesses) × (x.1 < length so.accesses))
 pages_are so a b =
     let first = position_of (access_names so.accesses) a in
     let second = position_of (access_names so.accesses) b in
     chained (λ x. first ≡ Some x) (λ x. (x.0 < length so.accesses) × (x.1 < length so.accesses)) first _ (itself first) (λ x h.
-    mapped (λ y. second ≡ Some y) (λ x. (x.0 < length so.accesses) × (x.1 < length so.accesses)) second _ (itself second) (λ y k. (access_is so a x h, access_is so b y k)))
+    made_some (λ y. second ≡ Some y) (λ x. (x.0 < length so.accesses) × (x.1 < length so.accesses)) second _ (itself second) (λ y k. (access_is so a x h, access_is so b y k)))
 
 link_is : (d : ModelData) (so : Requests) (x : AskedLink) → IfSome (link_in d so x) (IsLink d (length so.accesses))
-link_is d so (asked_link.ShareTable a b) = mapped _ (IsLink d (length so.accesses)) (sides_in d so a b) (λ x. ShareTable x.0 x.1) (sides_are d so a b) (λ x h. h)
-link_is d so (asked_link.ShareCell a b) = mapped _ (IsLink d (length so.accesses)) (sides_in d so a b) (λ x. ShareCell x.0 x.1) (sides_are d so a b) (λ x h. h)
-link_is d so (asked_link.SharePage a b) = mapped _ (IsLink d (length so.accesses)) (pages_in so a b) (λ x. SharePage x.0 x.1) (pages_are so a b) (λ x h. h)
-link_is d so (asked_link.ApartTable a b) = mapped _ (IsLink d (length so.accesses)) (sides_in d so a b) (λ x. ApartTable x.0 x.1) (sides_are d so a b) (λ x h. h)
-link_is d so (asked_link.ApartPage a b) = mapped _ (IsLink d (length so.accesses)) (pages_in so a b) (λ x. ApartPage x.0 x.1) (pages_are so a b) (λ x h. h)
+link_is d so (asked_link.ShareTable a b) = made_some _ (IsLink d (length so.accesses)) (sides_in d so a b) (λ x. ShareTable x.0 x.1) (sides_are d so a b) (λ x h. h)
+link_is d so (asked_link.ShareCell a b) = made_some _ (IsLink d (length so.accesses)) (sides_in d so a b) (λ x. ShareCell x.0 x.1) (sides_are d so a b) (λ x h. h)
+link_is d so (asked_link.SharePage a b) = made_some _ (IsLink d (length so.accesses)) (pages_in so a b) (λ x. SharePage x.0 x.1) (pages_are so a b) (λ x h. h)
+link_is d so (asked_link.ApartTable a b) = made_some _ (IsLink d (length so.accesses)) (sides_in d so a b) (λ x. ApartTable x.0 x.1) (sides_are d so a b) (λ x h. h)
+link_is d so (asked_link.ApartPage a b) = made_some _ (IsLink d (length so.accesses)) (pages_in so a b) (λ x. ApartPage x.0 x.1) (pages_are so a b) (λ x h. h)
 
 -- ---- one more line
 

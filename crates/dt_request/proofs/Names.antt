@@ -10,7 +10,7 @@ use Rattle.std.proofs.lemmas.List.Quantifiers.{all_pairs_push}
 use Rattle.dt_lemmas.proofs.Options.{chosen_some, mapped_some}
 use Rattle.dt_lemmas.proofs.Positions.{position_none, missing, stops_here, goes_by}
 use Rattle.dt_lex.specs.declared.name.Name.{Name}
-use Rattle.dt_lex.specs.Frame.{is_alone, is_nothing, given}
+use Rattle.dt_lex.specs.Frame.{is_alone, is_nothing, given, ◌>>=◌, name_at, lone}
 use Rattle.dt_lex.specs.Names.{name_of, same_name, IsName}
 use Rattle.dt_lex.proofs.NameWords.{same_self}
 use Rattle.dt_lex.proofs.Padded.{name_of_again}
@@ -21,7 +21,8 @@ use Rattle.dt_model.specs.Positions.{position_of}
 use Rattle.dt_request.specs.declared.asked.Line.{Line}
 use Rattle.dt_request.specs.declared.asked.Line.TheVariants as line
 use Rattle.dt_request.specs.Lists.{AreNames}
-use Rattle.dt_request.specs.Line.{◌>>=◌, name_at, names_at, numbers_at, lone, demand_of, share_of, apart_of, header_of, spelled}
+use Rattle.dt_request.specs.Line.{names_at, numbers_at, demand_of, share_of, apart_of, header_of, spelled}
+use Rattle.dt_lex.proofs.Fronts.{chained, given_some}
 
 -- ---- the names of a line can be spelled
 
@@ -30,14 +31,6 @@ HasNames (line.Context name) = IsName name
 HasNames (line.Access name context) = IsName name
 HasNames _ = Unit {0}
 
-bound_some : {A B : Type 0} (P : A → Type 0) (Q : B → Type 0) (o : Option A) (f : A → Option B) → IfSome o P → ((x : A) → P x → IfSome (f x) Q) → IfSome (o >>= f) Q
-bound_some P Q None f h k = tt
-bound_some P Q (Some x) f h k = k x h
-
-given_some : {X : Type 0} (P : X → Type 0) (b : Bool) (x : X) → P x → IfSome (given b x) P
-given_some P true x h = h
-given_some P false x h = tt
-
 name_spelled : (ts : List (List ℕ)) → IfSome (name_at ts) (λ x. IsName x.0)
 name_spelled [] = tt
 name_spelled (t ∷ ts) = mapped_some (λ x. IsName x.0) (λ n. (n, ts)) (name_of t) (name_of_again t)
@@ -45,8 +38,8 @@ name_spelled (t ∷ ts) = mapped_some (λ x. IsName x.0) (λ n. (n, ts)) (name_o
 names_spelled : (ts : List (List ℕ)) → IfSome (names_at ts) (λ x. IsName x.0.0)
 unfolding names_at
 names_spelled ts =
-    bound_some (λ x. IsName x.0) (λ x. IsName x.0.0) (name_at ts) _ (name_spelled ts) (λ first is.
-    bound_some (λ x. Unit {0}) (λ x. IsName x.0.0) (name_at first.1) _ (any_some (name_at first.1)) (λ second _. is))
+    chained (λ x. IsName x.0) (λ x. IsName x.0.0) (name_at ts) _ (name_spelled ts) (λ first is.
+    chained (λ x. Unit {0}) (λ x. IsName x.0.0) (name_at first.1) _ (any_some (name_at first.1)) (λ second _. is))
   where
     any_some : {X : Type 0} (o : Option X) → IfSome o (λ x. Unit {0})
     any_some None = tt
@@ -55,7 +48,7 @@ names_spelled ts =
 lone_context : (ts : List (List ℕ)) → IfSome (option_map (λ name. line.Context name) (lone (name_at ts))) HasNames
 lone_context ts =
     mapped_from HasNames (λ n. IsName n) (λ name. line.Context name) (lone (name_at ts))
-    (bound_some (λ x. IsName x.0) (λ n. IsName n) (name_at ts) _ (name_spelled ts) (λ x is. given_some (λ n. IsName n) (is_nothing x.1) x.0 is))
+    (chained (λ x. IsName x.0) (λ n. IsName n) (name_at ts) _ (name_spelled ts) (λ x is. given_some (λ n. IsName n) (is_nothing x.1) x.0 is))
     (λ n is. is)
   where
     mapped_from : {X Y : Type 0} (P : Y → Type 0) (Q : X → Type 0) (f : X → Y) (o : Option X) → IfSome o Q → ((x : X) → Q x → P (f x)) → IfSome (option_map f o) P

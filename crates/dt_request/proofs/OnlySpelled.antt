@@ -6,7 +6,7 @@ use Rattle.std.proofs.lemmas.Option.{option_and_then_some, slice_get-get_or}
 use Rattle.std.proofs.lemmas.List.{append-nil, length_push}
 use Rattle.std.proofs.lemmas.List.Quantifiers.{position-Some}
 use Rattle.dt_lemmas.proofs.Booleans.{two_on}
-use Rattle.dt_lemmas.proofs.Options.{chosen_ok, at_ok, at_some, some_if}
+use Rattle.dt_lemmas.proofs.Options.{chosen_ok, at_ok, at_some, some_if, made_some}
 use Rattle.dt_lex.specs.declared.name.Name.{Name}
 use Rattle.dt_lex.specs.declared.section.Standing.TheVariants.{In}
 use Rattle.dt_lex.specs.Names.{name_of, same_name, no_name}
@@ -43,7 +43,7 @@ use Rattle.dt_request.specs.Lists.{is_fork, access_names}
 use Rattle.dt_request.specs.Entry.{Declared, sections, standing, is_allowed, node_names, is_step, step_where, quantity_in, side_in, sides_in, pages_in, link_in, can_be, measured_in, demand_in, access_at, last_demands, entry_of, meaning}
 use Rattle.dt_request.specs.Draft.{nothing, with_demand, added}
 use Rattle.dt_request.specs.Spelling.{Row, SpellsName, SpellsQuantity, SpellsDemand, SpellsLink, SpellsHeader, SpellsBounds, SpellsKept, SpellsContext, SpellsAccess, SpellEach, SpellWish, SpellWishes, Spell}
-use Rattle.dt_request.proofs.Results.{known_ok, known_then, range_ok, then_ok, chained, mapped, itself}
+use Rattle.dt_request.proofs.Results.{known_ok, known_then, range_ok, then_ok, chained, itself}
 use Rattle.dt_request.proofs.Demands.{length_with, names_with}
 use Rattle.dt_request.proofs.SpelledRows.{spelled_row}
 use Rattle.dt_request.proofs.SpelledLists.{AreRead}
@@ -69,15 +69,15 @@ step_position kind d n i e =
 quantity_spells : (d : ModelData) (asked : AskedQuantity) (of : Quantity) (q : Row) → quantity_in d asked ≡ Some of → QuantityShape asked q → SpellsQuantity d of q
 quantity_spells d asked of q e h = choose asked (quantity_in d asked) refl e h
   where
-    mapped : (kind : ℕ → Quantity) (o : Option ℕ) → option_map kind o ≡ Some of → ((i : ℕ) → o ≡ Some i → SpellsQuantity d (kind i) q) → SpellsQuantity d of q
-    mapped kind None e h = absurd cc
-    mapped kind (Some i) e h = let is : kind i ≡ of = cc in subst (λ (x : Quantity). SpellsQuantity d x q) is (h i refl)
+    made_some : (kind : ℕ → Quantity) (o : Option ℕ) → option_map kind o ≡ Some of → ((i : ℕ) → o ≡ Some i → SpellsQuantity d (kind i) q) → SpellsQuantity d of q
+    made_some kind None e h = absurd cc
+    made_some kind (Some i) e h = let is : kind i ≡ of = cc in subst (λ (x : Quantity). SpellsQuantity d x q) is (h i refl)
 
     choose : (x : AskedQuantity) (o : Option Quantity) → quantity_in d x ≡ o → o ≡ Some of → QuantityShape x q → SpellsQuantity d of q
-    choose (Reg n) o e f h = mapped (λ i. quantity.Reg i) (position_of (names_of d.regs) n) (e ∙ f) (λ i at. (h.0, spells_name (names_of d.regs) n i h.0 at h.1, h.2))
-    choose (Input n) o e f h = mapped (λ i. quantity.Input i) (position_of (names_of d.inputs) n) (e ∙ f) (λ i at. (h.0, spells_name (names_of d.inputs) n i h.0 at h.1, h.2))
-    choose (Word n) o e f h = mapped (λ i. quantity.Word i) (step_where is_read d n) (e ∙ f) (λ i at. (h.0, spells_name (node_names d) n i h.0 (step_position is_read d n i at) h.1, h.2))
-    choose (Cell n) o e f h = mapped (λ i. quantity.Cell i) (step_where is_read d n) (e ∙ f) (λ i at. (h.0, spells_name (node_names d) n i h.0 (step_position is_read d n i at) h.1, h.2))
+    choose (Reg n) o e f h = made_some (λ i. quantity.Reg i) (position_of (names_of d.regs) n) (e ∙ f) (λ i at. (h.0, spells_name (names_of d.regs) n i h.0 at h.1, h.2))
+    choose (Input n) o e f h = made_some (λ i. quantity.Input i) (position_of (names_of d.inputs) n) (e ∙ f) (λ i at. (h.0, spells_name (names_of d.inputs) n i h.0 at h.1, h.2))
+    choose (Word n) o e f h = made_some (λ i. quantity.Word i) (step_where is_read d n) (e ∙ f) (λ i at. (h.0, spells_name (node_names d) n i h.0 (step_position is_read d n i at) h.1, h.2))
+    choose (Cell n) o e f h = made_some (λ i. quantity.Cell i) (step_where is_read d n) (e ∙ f) (λ i at. (h.0, spells_name (node_names d) n i h.0 (step_position is_read d n i at) h.1, h.2))
     choose Pa o e f h = let is : quantity.Pa ≡ of = cc in subst (λ (x : Quantity). SpellsQuantity d x q) is h
 
 measured_spells : (d : ModelData) (asked : AskedQuantity) (m n : ℕ) → IfOk (measured_in d asked m n) (λ of. quantity_in d asked ≡ Some of)
@@ -108,7 +108,7 @@ side_found d so asked =
     let at = position_of (access_names so.accesses) asked.access in
     let Q = IsFound d (access_names so.accesses) asked in
     chained (λ a. at ≡ Some a) Q at _ (itself at) (λ a e.
-    mapped (λ n. step_where is_read d asked.node ≡ Some n) Q (step_where is_read d asked.node) _ (itself (step_where is_read d asked.node)) (λ n f. (e, step_position is_read d asked.node n f)))
+    made_some (λ n. step_where is_read d asked.node ≡ Some n) Q (step_where is_read d asked.node) _ (itself (step_where is_read d asked.node)) (λ n f. (e, step_position is_read d asked.node n f)))
 
 abbrev AreFound : ModelData → List Name → AskedSide → AskedSide → Side × Side → Type 0
 AreFound d names a b x = IsFound d names a x.0 × IsFound d names b x.1
@@ -117,7 +117,7 @@ sides_found : (d : ModelData) (so : Requests) (a b : AskedSide) → IfSome (side
 sides_found d so a b =
     let names = access_names so.accesses in
     chained (IsFound d names a) (AreFound d names a b) (side_in d so a) _ (side_found d so a) (λ x p.
-    mapped (IsFound d names b) (AreFound d names a b) (side_in d so b) _ (side_found d so b) (λ y q. (p, q)))
+    made_some (IsFound d names b) (AreFound d names a b) (side_in d so b) _ (side_found d so b) (λ y q. (p, q)))
 
 abbrev PagesFound : List Name → Name → Name → ℕ × ℕ → Type 0
 PagesFound names a b x = (position_of names a ≡ Some x.0) × (position_of names b ≡ Some x.1)
@@ -126,24 +126,24 @@ pages_found : (so : Requests) (a b : Name) → IfSome (pages_in so a b) (PagesFo
 pages_found so a b =
     let names = access_names so.accesses in
     chained (λ x. position_of names a ≡ Some x) (PagesFound names a b) (position_of names a) _ (itself (position_of names a)) (λ x p.
-    mapped (λ y. position_of names b ≡ Some y) (PagesFound names a b) (position_of names b) _ (itself (position_of names b)) (λ y q. (p, q)))
+    made_some (λ y. position_of names b ≡ Some y) (PagesFound names a b) (position_of names b) _ (itself (position_of names b)) (λ y q. (p, q)))
 
 link_spells : (d : ModelData) (so : Requests) (x : AskedLink) (row : Row) → LinkShape x row → IfSome (link_in d so x) (λ y. SpellsLink d (access_names so.accesses) y row)
 link_spells d so (ShareTable a b) row h =
     let names = access_names so.accesses in
-    mapped (AreFound d names a b) (λ y. SpellsLink d names y row) (sides_in d so a b) (λ x. link.ShareTable x.0 x.1) (sides_found d so a b) (λ x p. (h.0, h.1, h.2, h.3, spells_name names a.access x.0.access h.0 p.0.0 h.4, spells_name (node_names d) a.node x.0.node h.1 p.0.1 h.5, spells_name names b.access x.1.access h.2 p.1.0 h.6, spells_name (node_names d) b.node x.1.node h.3 p.1.1 h.7, h.8))
+    made_some (AreFound d names a b) (λ y. SpellsLink d names y row) (sides_in d so a b) (λ x. link.ShareTable x.0 x.1) (sides_found d so a b) (λ x p. (h.0, h.1, h.2, h.3, spells_name names a.access x.0.access h.0 p.0.0 h.4, spells_name (node_names d) a.node x.0.node h.1 p.0.1 h.5, spells_name names b.access x.1.access h.2 p.1.0 h.6, spells_name (node_names d) b.node x.1.node h.3 p.1.1 h.7, h.8))
 link_spells d so (ShareCell a b) row h =
     let names = access_names so.accesses in
-    mapped (AreFound d names a b) (λ y. SpellsLink d names y row) (sides_in d so a b) (λ x. link.ShareCell x.0 x.1) (sides_found d so a b) (λ x p. (h.0, h.1, h.2, h.3, spells_name names a.access x.0.access h.0 p.0.0 h.4, spells_name (node_names d) a.node x.0.node h.1 p.0.1 h.5, spells_name names b.access x.1.access h.2 p.1.0 h.6, spells_name (node_names d) b.node x.1.node h.3 p.1.1 h.7, h.8))
+    made_some (AreFound d names a b) (λ y. SpellsLink d names y row) (sides_in d so a b) (λ x. link.ShareCell x.0 x.1) (sides_found d so a b) (λ x p. (h.0, h.1, h.2, h.3, spells_name names a.access x.0.access h.0 p.0.0 h.4, spells_name (node_names d) a.node x.0.node h.1 p.0.1 h.5, spells_name names b.access x.1.access h.2 p.1.0 h.6, spells_name (node_names d) b.node x.1.node h.3 p.1.1 h.7, h.8))
 link_spells d so (SharePage a b) row h =
     let names = access_names so.accesses in
-    mapped (PagesFound names a b) (λ y. SpellsLink d names y row) (pages_in so a b) (λ x. link.SharePage x.0 x.1) (pages_found so a b) (λ x p. (h.0, h.1, spells_name names a x.0 h.0 p.0 h.2, spells_name names b x.1 h.1 p.1 h.3, h.4))
+    made_some (PagesFound names a b) (λ y. SpellsLink d names y row) (pages_in so a b) (λ x. link.SharePage x.0 x.1) (pages_found so a b) (λ x p. (h.0, h.1, spells_name names a x.0 h.0 p.0 h.2, spells_name names b x.1 h.1 p.1 h.3, h.4))
 link_spells d so (ApartTable a b) row h =
     let names = access_names so.accesses in
-    mapped (AreFound d names a b) (λ y. SpellsLink d names y row) (sides_in d so a b) (λ x. link.ApartTable x.0 x.1) (sides_found d so a b) (λ x p. (h.0, h.1, h.2, h.3, spells_name names a.access x.0.access h.0 p.0.0 h.4, spells_name (node_names d) a.node x.0.node h.1 p.0.1 h.5, spells_name names b.access x.1.access h.2 p.1.0 h.6, spells_name (node_names d) b.node x.1.node h.3 p.1.1 h.7, h.8))
+    made_some (AreFound d names a b) (λ y. SpellsLink d names y row) (sides_in d so a b) (λ x. link.ApartTable x.0 x.1) (sides_found d so a b) (λ x p. (h.0, h.1, h.2, h.3, spells_name names a.access x.0.access h.0 p.0.0 h.4, spells_name (node_names d) a.node x.0.node h.1 p.0.1 h.5, spells_name names b.access x.1.access h.2 p.1.0 h.6, spells_name (node_names d) b.node x.1.node h.3 p.1.1 h.7, h.8))
 link_spells d so (ApartPage a b) row h =
     let names = access_names so.accesses in
-    mapped (PagesFound names a b) (λ y. SpellsLink d names y row) (pages_in so a b) (λ x. link.ApartPage x.0 x.1) (pages_found so a b) (λ x p. (h.0, h.1, spells_name names a x.0 h.0 p.0 h.2, spells_name names b x.1 h.1 p.1 h.3, h.4))
+    made_some (PagesFound names a b) (λ y. SpellsLink d names y row) (pages_in so a b) (λ x. link.ApartPage x.0 x.1) (pages_found so a b) (λ x p. (h.0, h.1, spells_name names a x.0 h.0 p.0 h.2, spells_name names b x.1 h.1 p.1 h.3, h.4))
 
 -- ---- one more line of a kind
 

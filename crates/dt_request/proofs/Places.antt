@@ -8,7 +8,7 @@ use Rattle.std.proofs.lemmas.Option.{slice_get-map, slice_get_within, get_or_fro
 use Rattle.std.proofs.Math.Seq.{take-append_seam}
 use Rattle.std.proofs.lemmas.List.{length-take, get_or-take}
 use Rattle.std.proofs.lemmas.List.Folds.{list_any-append, list_any_none}
-use Rattle.dt_lemmas.proofs.Options.{some_is}
+use Rattle.dt_lemmas.proofs.Options.{some_is, unbroken}
 use Rattle.dt_lemmas.proofs.Positions.{position_at}
 use Rattle.dt_lex.specs.declared.name.Name.{Name}
 use Rattle.dt_lex.specs.Names.{same_name}
@@ -43,10 +43,6 @@ placed_from {X} f xs fresh i n at = choose (slice_get xs i) refl
         subst (λ (m : Name). position_of (map f xs) m ≡ Some i) is (position_at f (same_name (f x)) xs i x e (fresh i x e) (same_self (f x)))
 
 -- ---- names of a model
-
--- a fact of the element at a place, where none at the place breaks it
-unbroken : {X : Type 0} (o : Option X) (x : X) (P : X → Type 0) → o ≡ Some x → (IsSomeAnd o P → ⊥) → P x → ⊥
-unbroken {X = X} o x P at none p = none (subst (λ (q : Option X). IsSomeAnd q P) (sym at) p)
 
 pub regs_placed : (d : ModelData) → IsAccepted d → ArePlaced (names_of d.regs)
 regs_placed d a = placed_from (λ (n : Named). n.name) d.regs (λ i n at. false_from_ne_true _ (unbroken (slice_get d.regs i) n _ at (a (Reg i) NameTwice)))

@@ -21,6 +21,7 @@ use Rattle.dt_request.specs.Lists.{access_names}
 use Rattle.dt_request.specs.Entry.{node_names}
 use Rattle.dt_request.specs.Print.{name_text, access_rows, link_row, version_of, keep_row, context_row, printed}
 use Rattle.dt_request.proofs.Steps.{names_are}
+use Rattle.dt_lex.proofs.Rows.{rows-append}
 
 -- ---- names by their positions
 
@@ -51,17 +52,6 @@ pub access_none : (wishes : List AccessWish) (i : ℕ) → slice_get wishes i �
 access_none wishes i e = text_none (λ (x : AccessWish). x.name) wishes i e
 
 -- ---- rows
-
-rows-append : (xs ys : List (List (List ℕ))) → text_of (xs ++ ys) ≡ text_of xs ++ text_of ys
-rows-append xs ys = flat_map-append row_text xs ys
-
--- the row of one more element
-pub rows_more : {X : Type 0} (row : X → List (List ℕ)) (xs : List X) (i : ℕ) (d : X) → i < length xs → text_of (map row (take (i + 1) xs)) ≡ text_of (map row (take i xs)) ++ row_text (row (get_or xs i d))
-rows_more {X = X} row xs i d lt =
-    ap (λ (ys : List X). text_of (map row ys)) (take_more xs i d lt)
-    ∙ ap text_of (map_push row (take i xs) (get_or xs i d))
-    ∙ rows-append (map row (take i xs)) (row (get_or xs i d) ∷ [])
-    ∙ ap (λ (t : List ℕ). text_of (map row (take i xs)) ++ t) (append-nil (row_text (row (get_or xs i d))))
 
 -- the rows of one more element
 pub blocks_more : {X : Type 0} (rows : X → List (List (List ℕ))) (xs : List X) (i : ℕ) (d : X) → i < length xs → text_of (flat_map rows (take (i + 1) xs)) ≡ text_of (flat_map rows (take i xs)) ++ text_of (rows (get_or xs i d))

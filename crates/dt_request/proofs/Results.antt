@@ -33,6 +33,3 @@ pub itself : {X : Type 0} (o : Option X) → IfSome o (λ x. o ≡ Some x)
 itself None = tt
 itself (Some x) = refl
 
-pub mapped : {X Y : Type 0} (P : X → Type 0) (Q : Y → Type 0) (o : Option X) (f : X → Y) → IfSome o P → ((x : X) → P x → Q (f x)) → IfSome (option_map f o) Q
-mapped P Q None f h k = tt
-mapped P Q (Some x) f h k = k x h

@@ -3,9 +3,9 @@ use Rattle.std.proofs.Common.{◌≡◌, ℕ, Bool, true, false, cond, List, [],
 use Rattle.std.specs.Prelude.{IfSome, option_map, codes}
 use Rattle.std.specs.Str.{bytes_eq}
 use Rattle.std.proofs.lemmas.Slice.Eq.{bytes_eq-Decides}
-use Rattle.dt_lemmas.proofs.Options.{chosen_some, mapped_some}
+use Rattle.dt_lemmas.proofs.Options.{chosen_some, mapped_some, made_some}
 use Rattle.dt_lex.specs.declared.name.Name.{Name}
-use Rattle.dt_lex.specs.Frame.{is_alone, is_nothing, given}
+use Rattle.dt_lex.specs.Frame.{is_alone, is_nothing, given, ◌>>=◌, Front, name_at, number_at, lone}
 use Rattle.dt_lex.specs.Names.{name_of}
 use Rattle.dt_lex.specs.Numeral.{number_of}
 use Rattle.dt_request.specs.declared.asked.AskedQuantity.{AskedQuantity}
@@ -17,8 +17,9 @@ use Rattle.dt_request.specs.declared.asked.AskedLink.{AskedLink}
 use Rattle.dt_request.specs.declared.asked.AskedLink.TheVariants.{ShareTable, ShareCell, SharePage, ApartTable, ApartPage}
 use Rattle.dt_request.specs.declared.asked.Line.{Line}
 use Rattle.dt_request.specs.declared.asked.Line.TheVariants as line
-use Rattle.dt_request.specs.Line.{◌>>=◌, Front, name_at, number_at, names_at, numbers_at, lone, named_quantity, quantity_behind, quantity_at, measured_at, branch_of, take_of, ends_of, demand_of, side_at, sides_at, share_of, apart_of, header_of, spelled}
+use Rattle.dt_request.specs.Line.{names_at, numbers_at, named_quantity, quantity_behind, quantity_at, measured_at, branch_of, take_of, ends_of, demand_of, side_at, sides_at, share_of, apart_of, header_of, spelled}
 use Rattle.dt_request.specs.Spelling.{Row, SpellsBounds, SpellsContext}
+use Rattle.dt_lex.proofs.Fronts.{chained}
 
 -- ---- shapes
 
@@ -81,14 +82,6 @@ same t w e = (bytes_eq-Decides t w).0 e
 -- a row that begins with this word
 with_word : (t w : List ℕ) (ts us : Row) → bytes_eq t w ≡ true → ts ≡ us → t ∷ ts ≡ w ∷ us
 with_word t w ts us e f = λ i. same t w e i ∷ f i
-
-chained : {X Y : Type 0} (P : X → Type 0) (Q : Y → Type 0) (o : Option X) (f : X → Option Y) → IfSome o P → ((x : X) → P x → IfSome (f x) Q) → IfSome (o >>= f) Q
-chained P Q None f h k = tt
-chained P Q (Some x) f h k = k x h
-
-mapped : {X Y : Type 0} (P : X → Type 0) (Q : Y → Type 0) (o : Option X) (f : X → Y) → IfSome o P → ((x : X) → P x → Q (f x)) → IfSome (option_map f o) Q
-mapped P Q None f h k = tt
-mapped P Q (Some x) f h k = k x h
 
 -- the first token is a name
 abbrev OneName : Row → Name × Row → Type 0
@@ -212,13 +205,13 @@ demand_shape : (t : List ℕ) (ts : Row) → IfSome (demand_of t ts) (λ x. Dema
 unfolding demand_of
 demand_shape t ts =
     let Q : AskedDemand → Type 0 = λ x. DemandShape x (t ∷ ts) in
-    chosen_some Q (bytes_eq t (codes "via")) _ _ (λ e. mapped _ Q (lone (name_at ts)) (λ n. Via n) (one_name ts) (λ n p. (p.0, p.1, with_word t (codes "via") ts _ e p.2)))
-    (λ _. chosen_some Q (bytes_eq t (codes "avoid")) _ _ (λ e. mapped _ Q (lone (name_at ts)) (λ n. Avoid n) (one_name ts) (λ n p. (p.0, p.1, with_word t (codes "avoid") ts _ e p.2)))
+    chosen_some Q (bytes_eq t (codes "via")) _ _ (λ e. made_some _ Q (lone (name_at ts)) (λ n. Via n) (one_name ts) (λ n p. (p.0, p.1, with_word t (codes "via") ts _ e p.2)))
+    (λ _. chosen_some Q (bytes_eq t (codes "avoid")) _ _ (λ e. made_some _ Q (lone (name_at ts)) (λ n. Avoid n) (one_name ts) (λ n p. (p.0, p.1, with_word t (codes "avoid") ts _ e p.2)))
     (λ _. chosen_some Q (bytes_eq t (codes "take")) _ _ (λ e. take_shape t ts e)
     (λ _. chosen_some Q (bytes_eq t (codes "ends")) _ _ (λ e. ends_shape t ts e)
-    (λ _. chosen_some Q (bytes_eq t (codes "page")) _ _ (λ e. mapped _ Q (lone (number_at ts)) (λ n. Page n) (one_number ts) (λ n p. (p.0, p.1, with_word t (codes "page") ts _ e p.2)))
-    (λ _. chosen_some Q (bytes_eq t (codes "bits")) _ _ (λ e. mapped _ Q (lone (measured_at ts)) (λ x. Bits x.0 x.1.0 x.1.1) (one_measured ts) (λ x p. (p.0, p.1, p.2, p.3, p.4, p.5, with_word t (codes "bits") ts _ e p.6)))
-    (λ _. chosen_some Q (bytes_eq t (codes "range")) _ _ (λ e. mapped _ Q (lone (measured_at ts)) (λ x. Span x.0 x.1.0 x.1.1) (one_measured ts) (λ x p. (p.0, p.1, p.2, p.3, p.4, p.5, with_word t (codes "range") ts _ e p.6))) (λ _. tt)))))))
+    (λ _. chosen_some Q (bytes_eq t (codes "page")) _ _ (λ e. made_some _ Q (lone (number_at ts)) (λ n. Page n) (one_number ts) (λ n p. (p.0, p.1, with_word t (codes "page") ts _ e p.2)))
+    (λ _. chosen_some Q (bytes_eq t (codes "bits")) _ _ (λ e. made_some _ Q (lone (measured_at ts)) (λ x. Bits x.0 x.1.0 x.1.1) (one_measured ts) (λ x p. (p.0, p.1, p.2, p.3, p.4, p.5, with_word t (codes "bits") ts _ e p.6)))
+    (λ _. chosen_some Q (bytes_eq t (codes "range")) _ _ (λ e. made_some _ Q (lone (measured_at ts)) (λ x. Span x.0 x.1.0 x.1.1) (one_measured ts) (λ x p. (p.0, p.1, p.2, p.3, p.4, p.5, with_word t (codes "range") ts _ e p.6))) (λ _. tt)))))))
 
 -- ---- links
 
@@ -250,17 +243,17 @@ unfolding share_of
 share_shape t [] is = tt
 share_shape t (u ∷ ts) is =
     let Q : AskedLink → Type 0 = λ x. LinkShape x (t ∷ u ∷ ts) in
-    chosen_some Q (bytes_eq u (codes "table")) _ _ (λ e. mapped _ Q (lone (sides_at ts)) (λ x. ShareTable x.0 x.1) (two_sides ts) (λ x p. (p.0, p.1, p.2, p.3, p.4, p.5, p.6, p.7, with_words t (codes "share") u (codes "table") ts _ is e p.8)))
-    (λ _. chosen_some Q (bytes_eq u (codes "cell")) _ _ (λ e. mapped _ Q (lone (sides_at ts)) (λ x. ShareCell x.0 x.1) (two_sides ts) (λ x p. (p.0, p.1, p.2, p.3, p.4, p.5, p.6, p.7, with_words t (codes "share") u (codes "cell") ts _ is e p.8)))
-    (λ _. chosen_some Q (bytes_eq u (codes "page")) _ _ (λ e. mapped _ Q (lone (names_at ts)) (λ x. SharePage x.0 x.1) (two_names ts) (λ x p. (p.0, p.1, p.2, p.3, with_words t (codes "share") u (codes "page") ts _ is e p.4))) (λ _. tt)))
+    chosen_some Q (bytes_eq u (codes "table")) _ _ (λ e. made_some _ Q (lone (sides_at ts)) (λ x. ShareTable x.0 x.1) (two_sides ts) (λ x p. (p.0, p.1, p.2, p.3, p.4, p.5, p.6, p.7, with_words t (codes "share") u (codes "table") ts _ is e p.8)))
+    (λ _. chosen_some Q (bytes_eq u (codes "cell")) _ _ (λ e. made_some _ Q (lone (sides_at ts)) (λ x. ShareCell x.0 x.1) (two_sides ts) (λ x p. (p.0, p.1, p.2, p.3, p.4, p.5, p.6, p.7, with_words t (codes "share") u (codes "cell") ts _ is e p.8)))
+    (λ _. chosen_some Q (bytes_eq u (codes "page")) _ _ (λ e. made_some _ Q (lone (names_at ts)) (λ x. SharePage x.0 x.1) (two_names ts) (λ x p. (p.0, p.1, p.2, p.3, with_words t (codes "share") u (codes "page") ts _ is e p.4))) (λ _. tt)))
 
 apart_shape : (t : List ℕ) (ts : Row) → bytes_eq t (codes "apart") ≡ true → IfSome (apart_of ts) (λ x. LinkShape x (t ∷ ts))
 unfolding apart_of
 apart_shape t [] is = tt
 apart_shape t (u ∷ ts) is =
     let Q : AskedLink → Type 0 = λ x. LinkShape x (t ∷ u ∷ ts) in
-    chosen_some Q (bytes_eq u (codes "table")) _ _ (λ e. mapped _ Q (lone (sides_at ts)) (λ x. ApartTable x.0 x.1) (two_sides ts) (λ x p. (p.0, p.1, p.2, p.3, p.4, p.5, p.6, p.7, with_words t (codes "apart") u (codes "table") ts _ is e p.8)))
-    (λ _. chosen_some Q (bytes_eq u (codes "page")) _ _ (λ e. mapped _ Q (lone (names_at ts)) (λ x. ApartPage x.0 x.1) (two_names ts) (λ x p. (p.0, p.1, p.2, p.3, with_words t (codes "apart") u (codes "page") ts _ is e p.4))) (λ _. tt))
+    chosen_some Q (bytes_eq u (codes "table")) _ _ (λ e. made_some _ Q (lone (sides_at ts)) (λ x. ApartTable x.0 x.1) (two_sides ts) (λ x p. (p.0, p.1, p.2, p.3, p.4, p.5, p.6, p.7, with_words t (codes "apart") u (codes "table") ts _ is e p.8)))
+    (λ _. chosen_some Q (bytes_eq u (codes "page")) _ _ (λ e. made_some _ Q (lone (names_at ts)) (λ x. ApartPage x.0 x.1) (two_names ts) (λ x p. (p.0, p.1, p.2, p.3, with_words t (codes "apart") u (codes "page") ts _ is e p.4))) (λ _. tt))
 
 -- ---- lines
 
@@ -279,11 +272,11 @@ unfolding spelled
 spelled_shape t ts =
     let Q : Line → Type 0 = λ l. Shape l (t ∷ ts) in
     chosen_some Q (bytes_eq t (codes "requests")) _ _ (λ e. header_shape t ts e)
-    (λ _. chosen_some Q (bytes_eq t (codes "tables")) _ _ (λ e. mapped _ Q (lone (numbers_at ts)) (λ x. line.Tables x.0 x.1) (two_numbers ts) (λ x p. (p.0, p.1, p.2, p.3, with_word t (codes "tables") ts _ e p.4)))
-    (λ _. chosen_some Q (bytes_eq t (codes "keep")) _ _ (λ e. mapped _ Q (lone (numbers_at ts)) (λ x. line.Keep x.0 x.1) (two_numbers ts) (λ x p. (p.0, p.1, p.2, p.3, with_word t (codes "keep") ts _ e p.4)))
-    (λ _. chosen_some Q (bytes_eq t (codes "context")) _ _ (λ e. mapped _ Q (lone (name_at ts)) (λ n. line.Context n) (one_name ts) (λ n p. (p.0, p.1, with_word t (codes "context") ts _ e p.2)))
-    (λ _. chosen_some Q (bytes_eq t (codes "access")) _ _ (λ e. mapped _ Q (lone (names_at ts)) (λ x. line.Access x.0 x.1) (two_names ts) (λ x p. (p.0, p.1, p.2, p.3, with_word t (codes "access") ts _ e p.4)))
-    (λ _. chosen_some Q (bytes_eq t (codes "share")) _ _ (λ e. mapped _ Q (share_of ts) (λ x. line.Link x) (share_shape t ts e) (λ x p. p))
-    (λ _. chosen_some Q (bytes_eq t (codes "apart")) _ _ (λ e. mapped _ Q (apart_of ts) (λ x. line.Link x) (apart_shape t ts e) (λ x p. p))
+    (λ _. chosen_some Q (bytes_eq t (codes "tables")) _ _ (λ e. made_some _ Q (lone (numbers_at ts)) (λ x. line.Tables x.0 x.1) (two_numbers ts) (λ x p. (p.0, p.1, p.2, p.3, with_word t (codes "tables") ts _ e p.4)))
+    (λ _. chosen_some Q (bytes_eq t (codes "keep")) _ _ (λ e. made_some _ Q (lone (numbers_at ts)) (λ x. line.Keep x.0 x.1) (two_numbers ts) (λ x p. (p.0, p.1, p.2, p.3, with_word t (codes "keep") ts _ e p.4)))
+    (λ _. chosen_some Q (bytes_eq t (codes "context")) _ _ (λ e. made_some _ Q (lone (name_at ts)) (λ n. line.Context n) (one_name ts) (λ n p. (p.0, p.1, with_word t (codes "context") ts _ e p.2)))
+    (λ _. chosen_some Q (bytes_eq t (codes "access")) _ _ (λ e. made_some _ Q (lone (names_at ts)) (λ x. line.Access x.0 x.1) (two_names ts) (λ x p. (p.0, p.1, p.2, p.3, with_word t (codes "access") ts _ e p.4)))
+    (λ _. chosen_some Q (bytes_eq t (codes "share")) _ _ (λ e. made_some _ Q (share_of ts) (λ x. line.Link x) (share_shape t ts e) (λ x p. p))
+    (λ _. chosen_some Q (bytes_eq t (codes "apart")) _ _ (λ e. made_some _ Q (apart_of ts) (λ x. line.Link x) (apart_shape t ts e) (λ x p. p))
     (λ _. chosen_some Q (bytes_eq t (codes "end")) _ _ (λ e. end_shape t ts e)
-    (λ _. mapped _ Q (demand_of t ts) (λ x. line.Demand x) (demand_shape t ts) (λ x p. p)))))))))
+    (λ _. made_some _ Q (demand_of t ts) (λ x. line.Demand x) (demand_shape t ts) (λ x p. p)))))))))

@@ -30,10 +30,11 @@ use Rattle.dt_request.specs.declared.asked.AskedLink.TheVariants.{ShareTable, Sh
 use Rattle.dt_request.specs.declared.asked.Line.{Line}
 use Rattle.dt_request.specs.declared.asked.Line.TheVariants as line
 use Rattle.dt_request.specs.Lists.{is_fork, read_width, width_of, CanBe, IsDemand, access_names, IsSide, IsLink}
-use Rattle.dt_request.specs.Line.{Front, names_at, numbers_at, lone, named_quantity, quantity_behind, quantity_at, measured_at, branch_of, take_of, demand_of, side_at, sides_at, share_of, apart_of, spelled}
+use Rattle.dt_request.specs.Line.{names_at, numbers_at, named_quantity, quantity_behind, quantity_at, measured_at, branch_of, take_of, demand_of, side_at, sides_at, share_of, apart_of, spelled}
 use Rattle.dt_request.specs.Entry.{node_names, is_step, step_where, quantity_in, side_in, sides_in, pages_in, link_in, known, in_range, can_be, measured_in, demand_in}
 use Rattle.dt_request.specs.Spelling.{Row, SpellsQuantity, SpellsMeasured, SpellsDemand, SpellsSides, SpellsLink}
 use Rattle.dt_request.proofs.Places.{ArePlaced}
+use Rattle.dt_lex.specs.Frame.{Front, lone}
 
 abbrev pub spelled_row : Row → Option Line
 spelled_row [] = None

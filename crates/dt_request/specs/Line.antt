@@ -4,7 +4,7 @@ use Rattle.std.specs.Str.{bytes_eq}
 use Rattle.dt_lex.specs.declared.name.Name.{Name}
 use Rattle.dt_lex.specs.Numeral.{number_of}
 use Rattle.dt_lex.specs.Names.{name_of}
-use Rattle.dt_lex.specs.Frame.{is_alone, is_nothing, given}
+use Rattle.dt_lex.specs.Frame.{is_alone, is_nothing, given, ◌>>=◌, Front, first_by, name_at, number_at, lone}
 use Rattle.dt_request.specs.declared.asked.AskedQuantity.{AskedQuantity}
 use Rattle.dt_request.specs.declared.asked.AskedQuantity.TheVariants.{Reg, Input, Word, Cell, Pa}
 use Rattle.dt_request.specs.declared.asked.AskedDemand.{AskedDemand}
@@ -15,27 +15,7 @@ use Rattle.dt_request.specs.declared.asked.AskedLink.TheVariants.{ShareTable, Sh
 use Rattle.dt_request.specs.declared.asked.Line.{Line}
 use Rattle.dt_request.specs.declared.asked.Line.TheVariants.{Header, Tables, Keep, Context, Access, Demand, Link, End}
 
-infixl 10 ◌>>=◌
-abbrev pub ◌>>=◌ : {A B : Type 0} → Option A → (A → Option B) → Option B
-None >>= f = None
-(Some x) >>= f = f x
-
 -- ---- tokens from the front
-
--- what the front of some tokens spells, and the tokens after it
-abbrev pub Front : Type 0 → Type 0
-Front X = Option (X × List (List ℕ))
-
--- the first token, as f sees it
-abbrev pub first_by : {X : Type 0} → (List ℕ → Option X) → List (List ℕ) → Front X
-first_by f [] = None
-first_by f (t ∷ ts) = option_map (λ x. (x, ts)) (f t)
-
-abbrev pub name_at : List (List ℕ) → Front Name
-name_at ts = first_by name_of ts
-
-abbrev pub number_at : List (List ℕ) → Front ℕ
-number_at ts = first_by number_of ts
 
 unfoldable pub names_at : List (List ℕ) → Front (Name × Name)
 names_at ts = do
@@ -48,10 +28,6 @@ numbers_at ts = do
   first ← number_at ts
   second ← number_at first.1
   Some ((first.0, second.0), second.1)
-
--- what is read where no token follows it
-abbrev pub lone : {X : Type 0} → Front X → Option X
-lone r = r >>= λ x. given (is_nothing x.1) x.0
 
 -- ---- demands
 

@@ -14,7 +14,7 @@ use crate::known::Known;
 use crate::list::{AccessWish, Demand, KeptRange, Link, Quantity, Side};
 use crate::measure::{can_be, quantity_in};
 use dt_lex::{ANY, Name, ONE, Section, Standing, may_follow};
-use dt_model::{Accepted, bounds_fit};
+use dt_model::{Accepted, address_end, bounds_fit};
 
 const MOST_KEPT: usize = 16;
 
@@ -75,13 +75,6 @@ fn found<T>(there: Option<T>) -> Result<T, Cause>
 }
 
 // ---- kept ranges, contexts and accesses
-
-/// The first address that a model doesn't have.
-fn address_end(model: &Accepted) -> u128
-    ensures { result ≡ 2 ^ (accepted_data model.now).address }
-{
-    1 << model.model().address
-}
 
 fn keep_entry(model: &Accepted, draft: &Draft, lo: u128, hi: u128) -> Result<Entry, Cause>
     ensures { result ≡ keep_entry (accepted_data model.now) (declared_by draft.now).list lo hi }

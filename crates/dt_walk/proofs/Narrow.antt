@@ -8,18 +8,13 @@ use Rattle.dt_bits.specs.Ops.{applied}
 use Rattle.dt_model.specs.ModelData.{Tree, value, reg, input, var, apply1, apply2, apply3}
 use Rattle.dt_model.specs.Widths.{fitted, width_at, tree_width}
 use Rattle.dt_walk.specs.Meaning.{EnvData, Vars, valued, unused, value_at}
+use Rattle.dt_model.proofs.Fitting.{fitted_parts}
 
 -- the names that the first env_of knows have the same values in the second
 pub record Agrees (s t : EnvData) (v w : Vars) : Type 0 where
   pub regs : (i : ℕ) → IsSome (width_at s.scope.regs i) → valued (width_at s.scope.regs i) (slice_index s.regs i) ≡ valued (width_at t.scope.regs i) (slice_index t.regs i)
   pub inputs : (i : ℕ) → IsSome (width_at s.scope.inputs i) → valued (width_at s.scope.inputs i) (slice_index s.inputs i) ≡ valued (width_at t.scope.inputs i) (slice_index t.inputs i)
   pub vars : (i : ℕ) → IsSome (width_at s.scope.vars i) → valued (width_at s.scope.vars i) (v i) ≡ valued (width_at t.scope.vars i) (w i)
-
-fitted_parts : (op : Op) (a b c : Option ℕ) → IsSome (fitted op a b c) → IsSome a × IsSome b × IsSome c
-fitted_parts op (Some a) (Some b) (Some c) h = (refl, refl, refl)
-fitted_parts op None b c h = absurd (false≢true h)
-fitted_parts op (Some a) None c h = absurd (false≢true h)
-fitted_parts op (Some a) (Some b) None h = absurd (false≢true h)
 
 pub same_value : (s t : EnvData) (v w : Vars) (e : Tree) → Agrees s t v w → IsSome (tree_width s.scope e) → value_at s v e ≡ value_at t w e
 same_value s t v w (value n b) a h = refl

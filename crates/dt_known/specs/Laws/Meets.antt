@@ -2,7 +2,7 @@
 use Rattle.std.proofs.Common.{◌≡◌, ℕ, ◌^◌, ◌<◌, ◌≤◌, Bool, true, false, ◌&&◌, ◌||◌, bit_and, cond, eqb, Option, Some, None, is_some, refl, sym, ap, ◌∙◌, subst, inl, inr, ◌⊎◌, ⊎_elim, arith}
 use Rattle.std.specs.Cmp.{both_ways}
 use Rattle.std.proofs.lemmas.Nat.{and_le_l}
-use Rattle.std.proofs.lemmas.Bool.{and_parts, and_from, cases_lt, cond_both, cond-false, cond-true, or_parts, or_from, or_left, or_right, eq-eqb, eqb-true, false≢true, cases_Bool}
+use Rattle.std.proofs.lemmas.Bool.{and_parts, and_from, cases_lt, cond_both, cond-false, cond-true, or_parts, or_from, or_left, or_right, eq-eqb, eqb-true, false≢true, cases_Bool, false_from_ne_true}
 use Rattle.dt_bits.specs.Bits.{IsWidth, bit}
 use Rattle.dt_bits.specs.declared.value.Width.{Width}
 use Rattle.dt_bits.proofs.BitLemmas.{bit_above, same_bits, bit_of_and}
@@ -84,10 +84,6 @@ agreeing_held : (a : Known) (x : ℕ) → IsKnown a → a.empty ≡ false → x 
 agreeing_held a x p e h k = held_is a x e h (same_bits a.width.0 (bit_and x a.mask) a.value (omega (arith, and_le_l x a.mask)) (value_fits a p)
     (λ i l. bit_of_and x a.mask i ∙ ap (λ b. bit x i && b) (mask_bit a i) ∙ agree_masked (known_bit a i) (bit x i) (k i l) ∙ sym (value_bit a i p)))
 
-not_empty : (e : Bool) → (e ≡ true → ⊥) → e ≡ false
-not_empty true h = absurd (h refl)
-not_empty false h = refl
-
 -- what a meet holds, both hold
 meet_held : (a b : Known) (x : ℕ) → AreAlike known_ops a b → known_holds (known_meet a b) x ≡ true → (known_holds a x && known_holds b x) ≡ true
 meet_held a b x g t =
@@ -101,8 +97,8 @@ meet_held a b x g t =
     let s : (i : ℕ) → i < a.width.0 → Agrees (either (known_bit a i) (known_bit b i)) (bit x i) = λ i l.
     subst (λ o. Agrees o (bit x i)) (ap (λ k. known_bit k i) m.is ∙ bit_from_bits a.width f i l) (h.agrees i) in
     and_from (known_holds a x) (known_holds b x)
-    (agreeing_held a x g.a_is (not_empty a.empty (λ e. full (inl e))) fits (λ i l. either_first (known_bit a i) (known_bit b i) (bit x i) (s i l)))
-    (agreeing_held b x g.b_is (not_empty b.empty (λ e. full (inr e))) (subst (λ n. x < 2 ^ n) v fits)
+    (agreeing_held a x g.a_is (false_from_ne_true a.empty (λ e. full (inl e))) fits (λ i l. either_first (known_bit a i) (known_bit b i) (bit x i) (s i l)))
+    (agreeing_held b x g.b_is (false_from_ne_true b.empty (λ e. full (inr e))) (subst (λ n. x < 2 ^ n) v fits)
     (λ i l. let k = subst (λ n. i < n) (sym v) l in either_second (known_bit a i) (known_bit b i) (bit x i) (m.apart i k) (s i k)))
 
 -- it holds exactly the numbers that both hold

@@ -4,7 +4,7 @@ use Rattle.std.specs.Int.Bits.{and_zero_r}
 use Rattle.std.proofs.lemmas.Bool.{cases_lt, cond-true, cond-false, cond_both, eqb-true, eq-eqb, le-ltb, false≢true, cases_Bool}
 use Rattle.std.proofs.lemmas.Nat.{pow_pos, and_le_l}
 use Rattle.dt_lemmas.proofs.Powers.{quotient_between}
-use Rattle.dt_lemmas.proofs.Booleans.{and_alike}
+use Rattle.dt_lemmas.proofs.Booleans.{and_alike, and_kept}
 use Rattle.dt_bits.specs.Bits.{bit, number_of}
 use Rattle.dt_bits.specs.declared.value.Bv.{Bv}
 use Rattle.dt_bits.proofs.BitLemmas.{same_bits, bit_of_and, bit_of_zero, bit_of_ones, bit_above, number_of_below, bit_of_number, same_bit}
@@ -75,10 +75,7 @@ knows a i v k =
 pub knows_bit : (a : Range) (i : ℕ) (v : Bool) → Knows a i v → KnowsBit range_ops a i v
 knows_bit a i v k =
     let m : bit (range_mask a) i ≡ true = mask_bit a i k.full k.below ∙ k.shares in
-    (m, bit_of_and a.lo (range_mask a) i ∙ and_right_is (bit a.lo i) (bit (range_mask a) i) m ∙ k.is)
-  where
-    and_right_is : (p q : Bool) → q ≡ true → (p && q) ≡ p
-    and_right_is p q e = grind arith
+    (m, bit_of_and a.lo (range_mask a) i ∙ and_kept (bit a.lo i) (bit (range_mask a) i) m ∙ k.is)
 
 -- ---- all bits
 
