@@ -1,6 +1,6 @@
 -- What holds of the terms of each node, whatever walk there is: those of its edges are truths, and addresses have their width.
 use Rattle.std.proofs.Common.{◌≡◌, ℕ, ◌+◌, ◌<◌, ◌≤◌, Bool, true, false, not, ◌&&◌, eqb, List, [], ◌∷◌, length, ◌⊎◌, inl, inr, refl, sym, ap, ◌∙◌, subst, arith}
-use Rattle.std.proofs.lemmas.Bool.{cases_Bool, eqb-true, eqb-false, false≢true}
+use Rattle.std.proofs.lemmas.Bool.{cases_Bool, eqb-true, eqb-false, false≢true, and_parts}
 use Rattle.dt_model.specs.ModelData.{ActData, bind, read, branch, fault, done}
 use Rattle.dt_request.specs.Lists.{is_fork}
 use Rattle.dt_walk.specs.Meaning.{EnvData, Vars}
@@ -73,12 +73,8 @@ pub record IsFlagged (v : Valuation) (address : ℕ) (p : ActData) (o : Out) : T
 to_flag : (v : Valuation) (t : ℕ) (b : Bool) → v t ≡ flag b → is_flag v t
 to_flag v t b e = e ∙ ap flag (sym (ap is_one e ∙ flag_one b))
 
-both_left : (p q : Bool) → (p && q) ≡ true → p ≡ true
-both_left true q e = refl
-both_left false q e = absurd (false≢true e)
-
 came : (v : Valuation) (come t : ℕ) (p q : Bool) → v come ≡ flag p → v t ≡ flag (p && q) → is_one (v t) ≡ true → is_one (v come) ≡ true
-came v come t p q e f g = ap is_one e ∙ flag_one p ∙ both_left p q (sym (ap is_one f ∙ flag_one (p && q)) ∙ g)
+came v come t p q e f g = ap is_one e ∙ flag_one p ∙ (and_parts p q (sym (ap is_one f ∙ flag_one (p && q)) ∙ g)).0
 
 -- a fork is left by its other side where the walk comes to it and doesn't leave it by `then`
 split_sides : (v : Valuation) (come t o : ℕ) (p q : Bool) → v come ≡ flag p → v t ≡ flag (p && q) → v o ≡ flag (p && not q) → is_one (v o) ≡ (is_one (v come) && not (is_one (v t)))

@@ -9,7 +9,15 @@ pub mod Composed
 pub mod Edges
 pub mod Ends
 pub mod Extends
+pub mod FineChoices
+pub mod FineClaims
+pub mod FineLists
+pub mod FineTrees
+pub mod FineWalks
 pub mod Flagged
+pub mod Kept
+pub mod Linked
+pub mod ListForms
 pub mod Memories
 pub mod Nodes
 pub mod Numbers
@@ -17,10 +25,14 @@ pub mod Oracle
 pub mod Outs
 pub mod Pages
 pub mod Pairs
+pub mod Quantities
+pub mod Ranges
 pub mod Ready
 pub mod Remembered
+pub mod Results
 pub mod Rising
 pub mod Satisfying
+pub mod Sides
 pub mod Solving
 pub mod Stand
 pub mod TableMemory
@@ -30,6 +42,3 @@ pub mod Trees
 pub mod Visits
 pub mod Whole
 pub mod Words
-pub mod Sides
-pub mod Kept
-pub mod Ranges

@@ -17,7 +17,6 @@ use Rattle.dt_image.specs.declared.image.Image.{Image}
 use Rattle.dt_image.specs.declared.image.ImageAccess.{ImageAccess}
 use Rattle.dt_satisfy.specs.Claims.{registers, run_of}
 use Rattle.dt_satisfy.specs.Satisfies.{Satisfies}
-use Rattle.dt_encode.specs.Meant.{AreMeant}
 use Rattle.dt_encode.specs.Table.{table, choices, names_chosen, access_chosen}
 use Rattle.dt_encode.specs.Images.{image_told}
 use Rattle.dt_encode.specs.Numbers.{access_numbers, numbers_of}
@@ -51,16 +50,16 @@ image_assigned d r i f sat =
     (first_assigned (choices d r) x.0 (numbers_of d i) (λ t l. choice_place (choices d r) x.0 t (are_choices d r) l) (are_choices d r) x.2 (numbers_fit d r i f sat))
 
 -- a solving assignment tells an image that satisfies
-pub to_image : (d : ModelData) (r : Requests) (numbers : List ℕ) → IsAccepted d → HaveArities d → IsList d r → AreMeant d r → AreTerms (table d r).terms → IsAssignment (table d r).terms numbers → solves (table d r) numbers ≡ true
+pub to_image : (d : ModelData) (r : Requests) (numbers : List ℕ) → IsAccepted d → HaveArities d → IsList d r → AreTerms (table d r).terms → IsAssignment (table d r).terms numbers → solves (table d r) numbers ≡ true
     → Satisfies d r (image_told (values (table d r).terms numbers) d r)
-to_image d r numbers a h list asks t i s = table_satisfies d r numbers (ready_from d a h) list asks t i s
+to_image d r numbers a h list t i s = table_satisfies d r numbers (ready_from d a h) list t i s
 
 -- a satisfying image gives a solving assignment
-pub from_image : (d : ModelData) (r : Requests) (i : Image) → IsAccepted d → HaveArities d → IsList d r → AreMeant d r → AreTerms (table d r).terms → Fit i.memory.bytes i.memory.words → Satisfies d r i
+pub from_image : (d : ModelData) (r : Requests) (i : Image) → IsAccepted d → HaveArities d → IsList d r → AreTerms (table d r).terms → Fit i.memory.bytes i.memory.words → Satisfies d r i
     → IsAssignment (table d r).terms (numbers_of d i) × (solves (table d r) (numbers_of d i) ≡ true)
-from_image d r i a h list asks t f sat =
+from_image d r i a h list t f sat =
     let assigned = image_assigned d r i f sat in
-    (assigned, image_solves d r i (ready_from d a h) list asks t assigned (terms_length (choices d r) (numbers_of d i) (numbers_fit d r i f sat)) sat)
+    (assigned, image_solves d r i (ready_from d a h) list t assigned (terms_length (choices d r) (numbers_of d i) (numbers_fit d r i f sat)) sat)
 
 -- and its memory is a table memory
 pub to_memory : (d : ModelData) (r : Requests) (numbers : List ℕ) → IsAccepted d → HaveArities d → IsList d r → AreTerms (table d r).terms → IsAssignment (table d r).terms numbers → solves (table d r) numbers ≡ true

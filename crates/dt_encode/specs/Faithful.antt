@@ -11,18 +11,17 @@ use Rattle.dt_terms.specs.Terms.{AreTerms}
 use Rattle.dt_terms.specs.Values.{IsAssignment, solves}
 use Rattle.dt_forms.specs.Meaning.{values}
 use Rattle.dt_encode.specs.Images.{image_told}
-use Rattle.dt_encode.specs.Meant.{AreMeant}
 use Rattle.dt_encode.specs.Numbers.{numbers_of}
 use Rattle.dt_encode.specs.Table.{table}
 
 -- numbers for the choices that make each required term 1 tell an image that satisfies the list
 abbrev pub SolutionsAreImages : Type 0
-SolutionsAreImages = (d : ModelData) (r : Requests) (numbers : List ℕ) → IsAccepted d → HaveArities d → IsList d r → AreMeant d r → AreTerms (table d r).terms
+SolutionsAreImages = (d : ModelData) (r : Requests) (numbers : List ℕ) → IsAccepted d → HaveArities d → IsList d r → AreTerms (table d r).terms
     → IsAssignment (table d r).terms numbers → solves (table d r) numbers ≡ true → Satisfies d r (image_told (values (table d r).terms numbers) d r)
 
 -- an image that satisfies the list gives numbers for the choices that make each required term 1
 abbrev pub ImagesAreSolutions : Type 0
-ImagesAreSolutions = (d : ModelData) (r : Requests) (i : Image) → IsAccepted d → HaveArities d → IsList d r → AreMeant d r → AreTerms (table d r).terms
+ImagesAreSolutions = (d : ModelData) (r : Requests) (i : Image) → IsAccepted d → HaveArities d → IsList d r → AreTerms (table d r).terms
     → Fit i.memory.bytes i.memory.words → Satisfies d r i → IsAssignment (table d r).terms (numbers_of d i) × (solves (table d r) (numbers_of d i) ≡ true)
 
 -- the memory of the image that a solution tells is a table memory

@@ -47,7 +47,8 @@ one_page a x y =
 
 -- both walks end with a result, and the form of each two results holds
 abbrev pub pages_forms : ModelData → (Sized → Sized → Form) → List Out → List Out → List Form
-pages_forms d form os others = ends_only ends_done (steps d) os ++ ends_only ends_done (steps d) others ++ flat_map (λ x. map (form x) (pages_at (steps d) others)) (pages_at (steps d) os)
+pages_forms d form os others =
+    ends_only ends_done (steps d) os ++ (ends_only ends_done (steps d) others ++ flat_map (λ x. map (form x) (pages_at (steps d) others)) (pages_at (steps d) os))
 
 -- ---- links
 

@@ -123,11 +123,14 @@ page_forms d r outs = apart_forms (list_access d r) (flat_map (pages_at (steps d
 abbrev pub keep_forms : ModelData → Requests → List (List Out) → List Form
 keep_forms d r outs = flat_map (kept_forms (list_access d r) (flat_map (pages_at (steps d)) outs) (flat_map (tables_at (steps d)) outs)) r.kept
 
--- the claims that are no rule: demands, links, reads at one cell, pages, and kept ranges
+-- demands, links, pages and kept ranges
+abbrev pub list_forms : ModelData → Requests → List (List Out) → List Form
+list_forms d r outs =
+    wish_forms d r 0 r.accesses outs ++ (flat_map (link_forms d (list_access d r) outs) r.links ++ (page_forms d r outs ++ keep_forms d r outs))
+
+-- the claims that are no rule: made reads at one cell have one word, and what the list asks
 abbrev pub claim_forms : ModelData → Requests → List (List Out) → List Form
-claim_forms d r outs =
-    wish_forms d r 0 r.accesses outs ++ (flat_map (link_forms d (list_access d r) outs) r.links
-    ++ (pair_forms (flat_map (reads_of (steps d)) outs) ++ (page_forms d r outs ++ keep_forms d r outs)))
+claim_forms d r outs = pair_forms (flat_map (reads_of (steps d)) outs) ++ list_forms d r outs
 
 -- further forms that hold of each image that satisfies
 abbrev pub extra_forms : ModelData → Requests → List (List Out) → List Form
