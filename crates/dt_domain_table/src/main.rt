@@ -18,10 +18,10 @@ mod range;
 
 use crate::asked::answer;
 use crate::call::call_of;
-use crate::numbers::numbers;
 use dt_known::Known;
 use dt_pair::Pair;
 use dt_range::Range;
+use dt_script::numbers;
 use std::io;
 
 fn main(rt: HostRuntime) -> io::Result<()> {

@@ -17,36 +17,13 @@
 
 mod answers;
 mod logs;
-mod operators;
 mod problems;
 mod steps;
 mod trails;
 
 use crate::answers::Answers;
-use dt_edge::{FileShelf, OutSink, Sink};
-use dt_script::Report;
-use std::env;
 use std::process::ExitCode;
 
-/// The report on the files that the words name.
-fn reported(rt: &HostRuntime) -> Option<Report> {
-    let mut shelf = FileShelf::new(rt);
-    let mut report = Report::new(rt.alloc());
-    for name in env::args(rt).ok()?.skip(1) {
-        report
-            .add_file::<Answers, _>(rt.alloc(), &mut shelf, name.as_str())
-            .ok()?;
-    }
-    report.end().ok()?;
-    Some(report)
-}
-
 fn main(rt: HostRuntime) -> ExitCode {
-    match reported(&rt) {
-        None => ExitCode::from(1),
-        Some(report) => match OutSink::new(&rt).write_all(report.text().as_bytes()) {
-            Ok(()) => ExitCode::SUCCESS,
-            Err(_) => ExitCode::from(2),
-        },
-    }
+    dt_script::answer_files::<Answers>(&rt)
 }

@@ -6,9 +6,8 @@
 //! choices, and whether that solves.
 ghost use Rattle.dt_bits.specs.Ops.{IsOp};
 
-use crate::operators::{numbers, operator, own_numbers, small};
 use dt_bits::{NoMemory, Op, Width};
-use dt_script::Case;
+use dt_script::{Case, numbers, operator, own_numbers, small};
 use dt_terms::{Problem, Term, TermFault};
 use std::alloc::{AllocError, Global};
 

@@ -6,12 +6,11 @@
 ghost use Rattle.dt_pair.specs.Ops.{pair_ops};
 ghost use Rattle.dt_box.specs.Cells.{AreCells};
 
-use crate::operators::{numbers, small};
 use crate::problems::problem;
 use dt_bits::NoMemory;
 use dt_box::{Cells, Changed, Step};
 use dt_pair::Pair;
-use dt_script::Case;
+use dt_script::{Case, numbers, small};
 use dt_terms::Problem;
 use std::alloc::{AllocError, Global};
 

@@ -7,13 +7,12 @@ ghost use Rattle.dt_pair.specs.Ops.{pair_ops};
 ghost use Rattle.dt_box.specs.Cells.{AreCells};
 ghost use Rattle.dt_box.specs.Watching.{watches_of};
 
-use crate::operators::{numbers, small};
 use crate::problems::problem;
 use crate::steps::{are_same, changed_word, step_named};
 use dt_bits::NoMemory;
 use dt_box::{Cells, Changed, Step, Trail, Watches};
 use dt_pair::Pair;
-use dt_script::Case;
+use dt_script::{Case, numbers, small};
 use dt_terms::Problem;
 use std::alloc::{AllocError, Global};
 

@@ -23,10 +23,12 @@
 //! Proved: these calls are safe and end. Only tested: all else.
 #![tactic(auto)]
 
+mod operators;
 mod parts;
 mod report;
 mod script;
 mod spelling;
 
+pub use operators::{numbers, operator, own_numbers, small};
 pub use parts::{Case, Part};
-pub use report::{Calls, Report};
+pub use report::{Calls, Report, answer_files};

@@ -1,9 +1,10 @@
 //! The report on files of cases.
 use crate::parts::{Case, Part};
 use crate::script::parts_of;
-use dt_edge::Shelf;
+use dt_edge::{FileShelf, OutSink, Shelf, Sink};
 use std::alloc::{AllocError, Global};
-use std::str;
+use std::process::ExitCode;
+use std::{env, str};
 
 /// The most bytes of a file of cases.
 const LIMIT: u64 = 16_777_216;
@@ -94,5 +95,30 @@ impl Report {
     /// The counts, at the end.
     pub fn end(&mut self) -> Result<(), AllocError> {
         writeln!(self.text, "{} ok, {} differ", self.ok, self.differ)
+    }
+}
+
+/// The report on the files that the program's words name.
+fn reported<C: Calls>(rt: &HostRuntime) -> Option<Report> {
+    let mut shelf = FileShelf::new(rt);
+    let mut report = Report::new(rt.alloc());
+    for name in env::args(rt).ok()?.skip(1) {
+        report
+            .add_file::<C, _>(rt.alloc(), &mut shelf, name.as_str())
+            .ok()?;
+    }
+    report.end().ok()?;
+    Some(report)
+}
+
+/// Writes the report on the files that the program's words name to the standard output: all that a
+/// program of cases does. It ends with 1 where memory ran out, and with 2 where the output failed.
+pub fn answer_files<C: Calls>(rt: &HostRuntime) -> ExitCode {
+    match reported::<C>(rt) {
+        None => ExitCode::from(1),
+        Some(report) => match OutSink::new(rt).write_all(report.text().as_bytes()) {
+            Ok(()) => ExitCode::SUCCESS,
+            Err(_) => ExitCode::from(2),
+        },
     }
 }

@@ -30,6 +30,7 @@ use Rattle.dt_top.specs.declared.file.File.TheVariants as file
 use Rattle.dt_top.specs.declared.status.Status.{Status}
 use Rattle.dt_top.specs.declared.status.Status.TheVariants as status
 use Rattle.dt_modeltext.proofs.OneFault.{one_fault}
+use Rattle.dt_lemmas.proofs.Options.{some_is}
 
 -- it answered, or the file that it needs is absent or too long
 abbrev pub Stops : Files → Outcome → Type 0
@@ -47,9 +48,6 @@ single_answered : (files : Files) (came : Status) (text : List ℕ) → IsSingle
 single_answered files came text [] [] out end hg ho sg so p q = p ∙ sym q
 single_answered files came text [] (g ∷ other) out end hg ho sg so p q = absurd q
 single_answered files came text (f ∷ given) other out end hg ho sg so p q = absurd p
-
-some_is : (a b : List ℕ) → Some a ≡ Some b → a ≡ b
-some_is a b e = cc
 
 none_is : (a : List ℕ) → None ≡ Some a → ⊥
 none_is a e = cc
@@ -74,13 +72,10 @@ single_file files kind name next one (f ∷ given) (g ∷ other) out end hg ho s
 one_model : (bytes : List ℕ) (c d : ModelData) → IsModelText bytes c → IsModelText bytes d → c ≡ d
 one_model bytes c d p q = let e : Ok c ≡ Ok d = sym p.spelled ∙ q.spelled in cc
 
-number_is : (n m : ℕ) → Some n ≡ Some m → n ≡ m
-number_is n m e = cc
-
 refused_one : (bytes text line : List ℕ) → IsRefusedModel bytes text → IsRefusedModel bytes line → text ≡ line
 refused_one bytes text line a b =
     let same = one_fault bytes a.fault b.fault a.number b.number a.place b.place a.refused b.refused in
-    let n = number_is a.number b.number (sym a.place ∙ ap model_line same ∙ b.place) in
+    let n = some_is a.number b.number (sym a.place ∙ ap model_line same ∙ b.place) in
     a.line ∙ ap (λ k. bad_line (codes "model") k (model_word a.fault)) n ∙ ap (λ f. bad_line (codes "model") b.number (model_word f)) same ∙ sym b.line
 
 single_model : (files : Files) (bytes : List ℕ) (next : ModelData → List FileRead → Outcome → Type 0) → ((d : ModelData) → IsSingle files (next d)) → IsSingle files (OnModel bytes next)
@@ -105,7 +100,7 @@ list_fault d bytes e f p q = let k = sym p ∙ q in cc
 refused_list_one : (d : ModelData) (bytes text line : List ℕ) → IsRefusedList d bytes text → IsRefusedList d bytes line → text ≡ line
 refused_list_one d bytes text line a b =
     let same = list_fault d bytes a.fault b.fault a.refused b.refused in
-    let n = number_is a.number b.number (sym a.place ∙ ap list_line same ∙ b.place) in
+    let n = some_is a.number b.number (sym a.place ∙ ap list_line same ∙ b.place) in
     a.line ∙ ap (λ k. bad_line (codes "requests") k (list_word a.fault)) n ∙ ap (λ f. bad_line (codes "requests") b.number (list_word f)) same ∙ sym b.line
 
 single_list : (files : Files) (d : ModelData) (bytes : List ℕ) (next : Requests → List FileRead → Outcome → Type 0) → ((list : Requests) → IsSingle files (next list)) → IsSingle files (OnRequests d bytes next)
@@ -136,7 +131,7 @@ no_image d bytes e i p q = let k : Err e ≡ Ok i = sym p ∙ q in cc
 refused_image_one : (d : ModelData) (list : Requests) (bytes text line : List ℕ) → IsRefusedImage d list bytes text → IsRefusedImage d list bytes line → text ≡ line
 refused_image_one d list bytes text line (inl a) (inl b) =
     let same = image_fault d bytes a.0 b.0 a.2 b.2 in
-    let n = number_is a.1 b.1 (sym a.3 ∙ ap image_line same ∙ b.3) in
+    let n = some_is a.1 b.1 (sym a.3 ∙ ap image_line same ∙ b.3) in
     a.4 ∙ ap (λ k. bad_line (codes "image") k (image_word a.0)) n ∙ ap (λ f. bad_line (codes "image") b.1 (image_word f)) same ∙ sym b.4
 refused_image_one d list bytes text line (inl a) (inr b) = absurd (no_image d bytes a.0 b.0 a.2 b.1)
 refused_image_one d list bytes text line (inr a) (inl b) = absurd (no_image d bytes b.0 a.0 b.2 a.1)
@@ -176,7 +171,7 @@ single_judging files d list i given other out end hg ho sg so (inl p) (inr q) = 
 single_judging files d list i given other out end hg ho sg so (inr p) (inl q) = let s = q.0 in absurd (one_broken (claims d list i) p.0 p.1 s.claims)
 single_judging files d list i given other out end hg ho sg so (inr p) (inr q) =
     single_answered files status.No (breaks_line (p.0 + 1)) given other out end hg ho sg so p.2
-    (subst (λ k. Answered status.No (breaks_line (k + 1)) other end) (number_is q.0 p.0 (sym q.1 ∙ p.1)) q.2)
+    (subst (λ k. Answered status.No (breaks_line (k + 1)) other end) (some_is q.0 p.0 (sym q.1 ∙ p.1)) q.2)
 
 pub single_doing : (files : Files) (job : Job) → IsSingle files (Doing job)
 single_doing files (solve job) = single_both files job.model job.requests Trying (single_trying files)

@@ -1,4 +1,4 @@
-//! Operators, as the lines of a problem spell them.
+//! Numbers and operators, as lines of cases spell them.
 ghost use Rattle.std.specs.Prelude.{◌≤◌, IfSome};
 ghost use Rattle.dt_bits.specs.Ops.{IsOp};
 
