@@ -279,7 +279,7 @@ pub record AreWide (d : ModelData) : Type 0 where
   pub word : IsWidth d.word
   pub address : IsWidth d.address
 
-names_wide : (ns : List NamedWidth) (i w : ℕ) → AreWidths ns → width_at ns i ≡ Some w → IsWidth w
+pub names_wide : (ns : List NamedWidth) (i w : ℕ) → AreWidths ns → width_at ns i ≡ Some w → IsWidth w
 names_wide [] i w h e = absurd (cc)
 names_wide (n ∷ ns) zero w h e = let z : n.width ≡ w = cc in subst IsWidth z h.0
 names_wide (n ∷ ns) (suc i) w h e = names_wide ns i w h.1 e

@@ -11,7 +11,10 @@ pub mod Ends
 pub mod Extends
 pub mod FineChoices
 pub mod FineClaims
+pub mod FineCount
 pub mod FineLists
+pub mod FineSizes
+pub mod FineTable
 pub mod FineTrees
 pub mod FineWalks
 pub mod Flagged
