@@ -1,5 +1,5 @@
 -- The claims of a list hold of an image exactly where their forms hold of the values that tell the image.
-use Rattle.std.proofs.Common.{◌≡◌, ℕ, zero, suc, ◌+◌, ◌<◌, ◌≤◌, Bool, not, List, Option, Some, None, [], ◌∷◌, ◌++◌, length, map, refl, sym, ap, ◌∙◌, subst, arith}
+use Rattle.std.proofs.Common.{◌≡◌, ℕ, zero, suc, ◌+◌, ◌<◌, ◌≤◌, ◌^◌, Bool, not, List, Option, Some, None, [], ◌∷◌, ◌++◌, length, map, refl, sym, ap, ◌∙◌, subst, arith}
 use Rattle.std.specs.Prelude.{slice_index_or, slice_get, IsSome, IsSomeAnd, IsTrue}
 use Rattle.std.specs.List.{flat_map, zip, AllByRecursion}
 use Rattle.std.proofs.lemmas.List.{length-map}
@@ -163,9 +163,9 @@ demand_tells v d r k a os (Take n b) h o = by_step (slice_get (steps d) n) refl 
     by_step None s g = absurd g
     by_step (Some x) s g = one_tells v (term (edge_at b (out_at os n))) _ (sym (leaves_told v d.address (steps d) os n b x h.flagged h.count s g))
 demand_tells v d r k a os (Bits q mask value) h o =
-    quantity_tells v d r k a os q (is_masked_form (quantity_width d q) mask value) (is_masked mask value) h (some_there (width_of d q) _ o.0) (masked_test v (quantity_width d q) mask value)
+    quantity_tells v d r k a os q (is_masked_form (quantity_width d q) mask value) (is_masked mask value) h (some_there (width_of d q) (λ (w : ℕ). mask < 2 ^ w) o.0) (masked_test v (quantity_width d q) mask value)
 demand_tells v d r k a os (Span q lo hi) h o =
-    quantity_tells v d r k a os q (is_within_form (quantity_width d q) lo hi) (is_within lo hi) h (some_there (width_of d q) _ o.0) (within_test v (quantity_width d q) lo hi)
+    quantity_tells v d r k a os q (is_within_form (quantity_width d q) lo hi) (is_within lo hi) h (some_there (width_of d q) (λ (w : ℕ). lo < 2 ^ w) o.0) (within_test v (quantity_width d q) lo hi)
 
 each_demand : (v : Valuation) (d : ModelData) (r : Requests) (k : ℕ) (a : AccessWish) (os : List Out) (demands : List Demand) → AreNodes v d os → AllByRecursion (IsDemand d) demands
     → AllByRecursion (λ (q : Demand). Tells v (demand_forms d (access_of d r k a) os q) (meets (told_made v d r k a os) q)) demands

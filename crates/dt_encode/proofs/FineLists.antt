@@ -20,7 +20,7 @@ use Rattle.dt_terms.specs.Problem.{IsTest}
 use Rattle.dt_forms.specs.Forms.{Form, all_required}
 use Rattle.dt_forms.specs.Sizes.{form_size, Grows}
 use Rattle.dt_forms.proofs.Sizes.{grows_none, grows_on, grows_within}
-use Rattle.dt_forms.proofs.Fine.{IsSized, sized_on, IsFine, AreFine, forms_size, all_stand, tests_on, fine_append}
+use Rattle.dt_forms.proofs.Fine.{IsSized, sized_on, IsFine, AreFine, forms_size, all_stand, tests_on, fine_append, mul_more}
 use Rattle.dt_encode.specs.Expressions.{Named, form_of}
 use Rattle.dt_encode.specs.Passing.{Access, State, Out, walk_placed}
 use Rattle.dt_encode.specs.Claims.{pair_forms, reads_of}
@@ -99,7 +99,7 @@ contexts_onward d r (suc n) c b rules h l =
     let x = forms_onward d r b (context_rules d c) (rules_size d.legal_context) h (rules_fine b.terms at d.legal_context sized rules) (rules_most at d.legal_context) in
     let y = contexts_onward d r n (c + 1) q rules x.built_is (omega (arith, l)) in
     let all = contexts_built d q n (c + 1) in
-    let m : rules_size d.legal_context + n * rules_size d.legal_context ≡ suc n * rules_size d.legal_context = omega arith in
+    let m : rules_size d.legal_context + n * rules_size d.legal_context ≡ suc n * rules_size d.legal_context = sym (mul_more n (rules_size d.legal_context)) in
     record { grows = subst (λ (k : ℕ). Grows b.terms all.terms k) m (grows_on b.terms q.terms all.terms (rules_size d.legal_context) (n * rules_size d.legal_context) x.grows y.grows); built_is = y.built_is }
 
 -- ---- accesses
@@ -186,7 +186,7 @@ accesses_onward d r (a ∷ more) b k model plain h o c l =
     let outs = subst (λ (l : List (List Out)). AllByRecursion (AreOutsSized d q.terms) l) (sym x.outs.1) (AllByRecursion-append (AreOutsSized d q.terms) b.outs (os ∷ []) moved (x.outs.2, tt)) in
     let y = accesses_onward d r more q (k + 1) model plain x.onward.built_is outs c.1 (omega (arith, l)) in
     let all = accesses_built d r q (k + 1) more in
-    let m : access_size d + length more * access_size d ≡ suc (length more) * access_size d = omega arith in
+    let m : access_size d + length more * access_size d ≡ suc (length more) * access_size d = sym (mul_more (length more) (access_size d)) in
     let n : length q.outs ≡ length b.outs + 1 = ap length x.outs.1 ∙ length-append b.outs (os ∷ []) in
     record {
       onward = record { grows = subst (λ (j : ℕ). Grows b.terms all.terms j) m (grows_on b.terms q.terms all.terms (access_size d) (length more * access_size d) x.onward.grows y.onward.grows); built_is = y.onward.built_is };

@@ -67,13 +67,13 @@ pub sound_with : (a : Access) (word left : ℕ) (terms others : List Term) (s : 
 sound_with a word left terms others s h = record { terms_are = h.terms_are; zero_is = h.zero_is; one_is = h.one_is; names = record { regs = h.names.regs; inputs = h.names.inputs; vars = h.names.vars; wide = h.names.wide }; come = h.come; away = h.away; words = h.words }
 
 -- a state after another: its terms go on by so many at most
-pub record Follows (a : Access) (word left : ℕ) (terms : List Term) (s : State) (k : ℕ) : Type 0 where
+pub record IsAfter (a : Access) (word left : ℕ) (terms : List Term) (s : State) (k : ℕ) : Type 0 where
   pub grows : Grows terms s.terms k
   pub sound : IsSound a word left s.terms s
 
 -- ---- edges
 
-join_sound : (a : Access) (word left : ℕ) (s : State) (to taken : ℕ) → IsSound a word left s.terms s → IsSized s.terms taken 1 → Follows a word left s.terms (join s to taken) 1
+join_sound : (a : Access) (word left : ℕ) (s : State) (to taken : ℕ) → IsSound a word left s.terms s → IsSized s.terms taken 1 → IsAfter a word left s.terms (join s to taken) 1
 join_sound a word left s to taken h t =
     let f = form2 Or (term (s.come to)) (term taken) in
     let i = or_fine s.terms (term (s.come to)) (term taken) (term_fine s.terms (s.come to) 1 (h.come to)) (term_fine s.terms taken 1 t) in
@@ -88,19 +88,20 @@ join_sound a word left s to taken h t =
     by_node n true p q = p
     by_node n false p q = q
 
-part_sound : (a : Access) (word left : ℕ) (s : State) (t tt o oo : ℕ) → IsSound a word left s.terms s → IsSized s.terms tt 1 → IsSized s.terms oo 1 → Follows a word left s.terms (part s t tt o oo) 2
+part_sound : (a : Access) (word left : ℕ) (s : State) (t tt o oo : ℕ) → IsSound a word left s.terms s → IsSized s.terms tt 1 → IsSized s.terms oo 1 → IsAfter a word left s.terms (part s t tt o oo) 2
 part_sound a word left s t tt o oo h p q =
     let x = join_sound a word left s t tt h p in
     let s1 = join s t tt in
     let y = join_sound a word left s1 o oo x.sound (sized_on s.terms s1.terms 1 oo 1 x.grows q) in
     record { grows = grows_on s.terms s1.terms (part s t tt o oo).terms 1 1 x.grows y.grows; sound = y.sound }
 
-assign_sound : (a : Access) (word left : ℕ) (s : State) (x taken new w : ℕ) → IsSound a word left s.terms s → width_at a.scope.vars x ≡ Some w → IsSized s.terms taken 1 → IsSized s.terms new w → Follows a word left s.terms (assign s x taken new) 1
+-- the state after an assignment to a variable that has this term, or none
+abbrev assigned : State → ℕ → ℕ → ℕ → Option ℕ → State
+assigned s x taken new o = let y = chosen s.terms o taken new in record { terms = y.terms; vars = λ v. cond (eqb v x) (Some y.at) (s.vars v); come = s.come; word = s.word; away = s.away }
+
+assign_sound : (a : Access) (word left : ℕ) (s : State) (x taken new w : ℕ) → IsSound a word left s.terms s → width_at a.scope.vars x ≡ Some w → IsSized s.terms taken 1 → IsSized s.terms new w → IsAfter a word left s.terms (assign s x taken new) 1
 assign_sound a word left s x taken new w h e t n = by_old (s.vars x) (h.names.vars x w e)
   where
-    after : State → Option ℕ → State
-    after s o = let y = chosen s.terms o taken new in record { terms = y.terms; vars = λ v. cond (eqb v x) (Some y.at) (s.vars v); come = s.come; word = s.word; away = s.away }
-
     has_var : (terms : List Term) (at : ℕ) → IsSound a word left terms s → IsSized terms at w → (v u : ℕ) → width_at a.scope.vars v ≡ Some u → IfSome (cond (eqb v x) (Some at) (s.vars v)) (λ t. IsSized terms t u)
     has_var terms at on z v u f = by_var (eqb v x) refl
       where
@@ -116,7 +117,7 @@ assign_sound a word left s x taken new w h e t n = by_old (s.vars x) (h.names.va
         let on = sound_on a word left s.terms terms k s g h in
         record { terms_are = on.terms_are; zero_is = on.zero_is; one_is = on.one_is; names = record { regs = on.names.regs; inputs = on.names.inputs; vars = has_var terms at on z; wide = on.names.wide }; come = on.come; away = on.away; words = on.words }
 
-    by_old : (o : Option ℕ) → IfSome o (λ t. IsSized s.terms t w) → Follows a word left s.terms (after s o) 1
+    by_old : (o : Option ℕ) → IfSome o (λ t. IsSized s.terms t w) → IsAfter a word left s.terms (assigned s x taken new o) 1
     by_old None old = let g = grows_within s.terms s.terms 0 1 (omega arith) (grows_none s.terms h.terms_are) in record { grows = g; sound = whole s.terms new 1 g n }
     by_old (Some b) old =
         let f = form3 Ite (term taken) (term new) (term b) in
@@ -236,7 +237,7 @@ fewer_words a word left terms s h = record {
 
 pub passed_sound : (a : Access) (word count left : ℕ) (s : State) (n : ℕ) (p : ActData) → IsPlain a → IsStep a.scope a.address word count n p → IsSound a word (cond (is_read p) 1 0 + left) s.terms s → IsPassed a word left s n p
 passed_sound a word count left s n (bind x e to) plain k h0 =
-    let h : IsSound a word left s.terms s = subst (λ (m : ℕ). IsSound a word m s.terms s) (omega arith) h0 in
+    let h : IsSound a word left s.terms s = (let z : 0 + left ≡ left = omega arith in subst (λ (m : ℕ). IsSound a word m s.terms s) z h0) in
     let c = s.come n in
     let f = form_of (named a s) e in
     let v = form_placed s.terms f in
@@ -264,7 +265,7 @@ passed_sound a word count left s n (bind x e to) plain k h0 =
       };
     }
 passed_sound a word count left s n (branch e t o) plain k h0 =
-    let h : IsSound a word left s.terms s = subst (λ (m : ℕ). IsSound a word m s.terms s) (omega arith) h0 in
+    let h : IsSound a word left s.terms s = (let z : 0 + left ≡ left = omega arith in subst (λ (m : ℕ). IsSound a word m s.terms s) z h0) in
     let c = s.come n in
     let f = form_of (named a s) e in
     let v = form_placed s.terms f in
@@ -292,7 +293,7 @@ passed_sound a word count left s n (branch e t o) plain k h0 =
       };
     }
 passed_sound a word count left s n (read x e m t o) plain k h0 =
-    let h : IsSound a word (left + 1) s.terms s = subst (λ (m : ℕ). IsSound a word m s.terms s) (omega arith) h0 in
+    let h : IsSound a word (left + 1) s.terms s = (let z : 1 + left ≡ left + 1 = omega arith in subst (λ (m : ℕ). IsSound a word m s.terms s) z h0) in
     let c = s.come n in
     let f = form_of (named a s) e in
     let v = form_placed s.terms f in
@@ -332,14 +333,14 @@ passed_sound a word count left s n (read x e m t o) plain k h0 =
       };
     }
 passed_sound a word count left s n (fault d) plain k h0 =
-    let h : IsSound a word left s.terms s = subst (λ (m : ℕ). IsSound a word m s.terms s) (omega arith) h0 in
+    let h : IsSound a word left s.terms s = (let z : 0 + left ≡ left = omega arith in subst (λ (m : ℕ). IsSound a word m s.terms s) z h0) in
     record {
       grows = grows_within s.terms s.terms 0 (step_size (fault d)) (omega arith) (grows_none s.terms h.terms_are);
       sound = h;
       out = record { come = h.come n; by_then = h.zero_is; by_other = h.zero_is; away = h.away; value = λ y. absurd (false≢true y); word_is = λ y. absurd (false≢true y) };
     }
 passed_sound a word count left s n (done e p) plain k h0 =
-    let h : IsSound a word left s.terms s = subst (λ (m : ℕ). IsSound a word m s.terms s) (omega arith) h0 in
+    let h : IsSound a word left s.terms s = (let z : 0 + left ≡ left = omega arith in subst (λ (m : ℕ). IsSound a word m s.terms s) z h0) in
     let f = form_of (named a s) e in
     let v = form_placed s.terms f in
     let i = tree_fine e s.terms (named a s) a.address h.names k.0 k.1 in
@@ -352,7 +353,7 @@ passed_sound a word count left s n (done e p) plain k h0 =
       out = record { come = on.come n; by_then = on.zero_is; by_other = on.zero_is; away = on.away; value = λ y. fine_sized s.terms f a.address h.terms_are i; word_is = λ y. absurd (false≢true y) };
     }
 
-noted_sound : (a : Access) (word left : ℕ) (s : State) (n : ℕ) → IsSound a word left s.terms s → Follows a word left s.terms (noted s n) 1
+noted_sound : (a : Access) (word left : ℕ) (s : State) (n : ℕ) → IsSound a word left s.terms s → IsAfter a word left s.terms (noted s n) 1
 noted_sound a word left s n h =
     let f = not_of (term (s.come n)) in
     let i = not_fine s.terms (term (s.come n)) (term_fine s.terms (s.come n) 1 (h.come n)) in

@@ -49,7 +49,7 @@ each_step v a st cells word steps fact each (p ∷ ps) s n to vars i left wide h
         let hq : IsLawful v q.state.terms = walk_before v a ps q.state (n + 1) h in
         let fn : Follows v a steps s n n vars = subst (λ (j : ℕ). Follows v a steps s n j vars) (sym (eqb-true n to e)) f in (
           each s n to vars p (left.sound n p at) hq f,
-          goes_on v a st cells word steps (noted s n) n vars (AllOuts fact ps (walk_placed a q.state ps (n + 1)).outs) p i at (left.sound n p at) (left.clean n p at) wide.0 hq (noted_follows v a steps s n n vars fn) x
+          goes_on v a st cells word steps (noted s n) n vars (AllOuts fact ps (walk_placed a q.state ps (n + 1)).outs) p (record { is_of = i; at = at; step = left.sound n p at; clean = left.clean n p at; word_wide = wide.0; lawful = hq; follows = noted_follows v a steps s n n vars fn }) x
               (λ to2 vars2 l2 m2 g. ih to2 vars2 (λ l. m2) g),
         )
 

@@ -244,10 +244,10 @@ link_tells v d r oss (ApartTable s t) fit nodes h =
     (ap is_one (not_form v (same_block a (max p.exponent q.exponent) p.out.value q.out.value) _ (blocks_value v a p q fit x.wide y.wide)) ∙ flag_one (is_apart (block_of v p) (block_of v q)))
 link_tells v d r oss (SharePage j k) fit nodes h =
     let a = list_access d r in
-    pages_tell v d oss j k (one_page a) is_block nodes h.0 h.1 (pairs_shared v a _ _ fit (pages_are v d oss j nodes h.0) (pages_are v d oss k nodes h.1))
+    pages_tell v d oss j k (one_page a) is_block nodes h.0 h.1 (pairs_shared v a (pages_at (steps d) (outs_of oss j)) (pages_at (steps d) (outs_of oss k)) fit (pages_are v d oss j nodes h.0) (pages_are v d oss k nodes h.1))
 link_tells v d r oss (ApartPage j k) fit nodes h =
     let a = list_access d r in
-    pages_tell v d oss j k (apart_form a come_of) is_apart nodes h.0 h.1 (pairs_apart v a come_of _ _ fit (pages_are v d oss j nodes h.0) (pages_are v d oss k nodes h.1))
+    pages_tell v d oss j k (apart_form a come_of) is_apart nodes h.0 h.1 (pairs_apart v a come_of (pages_at (steps d) (outs_of oss j)) (pages_at (steps d) (outs_of oss k)) fit (pages_are v d oss j nodes h.0) (pages_are v d oss k nodes h.1))
 
 each_link : (v : Valuation) (d : ModelData) (r : Requests) (oss : List (List Out)) (links : List Link) → AreFit v (list_access d r) → AllNodes v d oss → AllByRecursion (IsLink d (length oss)) links
     → AllByRecursion (λ (l : Link). Tells v (link_forms d (list_access d r) oss l) (link_holds (steps d) (runs v d oss) l)) links

@@ -230,11 +230,11 @@ pairs_apart v a key (x ∷ xs) ys fit h k = (row_apart v a key x ys fit h.0 k, p
 
 none_is : {X : Type 0} (test : X → Bool) (xs : List X) → not (list_any test xs) ≡ list_all (λ (x : X). not (test x)) xs
 none_is test [] = refl
-none_is {X} test (x ∷ xs) = by_test (test x)
+none_is {X} test (x ∷ xs) = by_test (test x) (none_is test xs)
   where
-    by_test : (b : Bool) → not (b || list_any test xs) ≡ (not b && list_all (λ (x : X). not (test x)) xs)
-    by_test true = refl
-    by_test false = none_is test xs
+    by_test : (b : Bool) → not (list_any test xs) ≡ list_all (λ (x : X). not (test x)) xs → not (b || list_any test xs) ≡ (not b && list_all (λ (x : X). not (test x)) xs)
+    by_test true e = refl
+    by_test false e = e
 
 apart_all : (bs cs : List Block) → are_apart bs cs ≡ all_pairs is_apart bs cs
 apart_all [] cs = refl
