@@ -10,7 +10,6 @@ use Rattle.dt_model.specs.Faults.{IsAccepted, HaveArities, context_scope, access
 use Rattle.dt_model.specs.Widths.{HasArities, tree_width}
 use Rattle.dt_model.proofs.Accepting.{reg_widths, input_widths, var_widths, accepted_word, accepted_address, context_rule_width, access_rule_width, context_arities, access_arities}
 use Rattle.dt_request.specs.declared.list.AccessWish.{AccessWish}
-use Rattle.dt_request.specs.declared.list.KeptRange.{KeptRange}
 use Rattle.dt_request.specs.declared.list.Requests.{Requests}
 use Rattle.dt_request.specs.Lists.{IsList, IsWish, IsDemand, IsLink, IsKept}
 use Rattle.dt_terms.specs.Terms.{AreTerms}
@@ -22,6 +21,7 @@ use Rattle.dt_encode.specs.Passing.{Out}
 use Rattle.dt_encode.specs.Table.{align_of, access_of, with_forms, contexts_built, start, built, claim_forms, extra_forms, table}
 use Rattle.dt_encode.proofs.Accepted.{ready_from}
 use Rattle.dt_encode.proofs.Composed.{contexts_outs}
+use Rattle.dt_encode.proofs.Ranges.{within_all}
 use Rattle.dt_encode.proofs.FineChoices.{start_chosen, start_terms}
 use Rattle.dt_encode.proofs.FineWalks.{IsPlain}
 use Rattle.dt_encode.proofs.FineClaims.{AreOutsSized, names_wide}
@@ -71,10 +71,6 @@ pub wish_few : (d : ModelData) (r : Requests) (wishes : List AccessWish) → All
 wish_few d r [] h = tt
 wish_few d r (a ∷ more) h = (h.0.few_demands, wish_few d r more h.1)
 
-kept_ends : (d : ModelData) (ks : List KeptRange) → AllByRecursion (IsKept d) ks → AllByRecursion (λ (k : KeptRange). k.hi ≤ 2 ^ d.address) ks
-kept_ends d [] h = tt
-kept_ends d (k ∷ ks) h = (h.0.within, kept_ends d ks h.1)
-
 pub wishes_of : (d : ModelData) (r : Requests) → IsList d r → AllByRecursion (IsWish d (length r.contexts)) r.accesses
 wishes_of d r list = recursion_from_All (IsWish d (length r.contexts)) r.accesses list.accesses
 
@@ -83,7 +79,7 @@ asked_is d r list = record {
   contexts = wish_contexts d r r.accesses (wishes_of d r list);
   demands = wish_demands d r r.accesses (wishes_of d r list);
   links = recursion_from_All (IsLink d (length r.accesses)) r.links list.links;
-  kept = kept_ends d r.kept (recursion_from_All (IsKept d) r.kept list.kept);
+  kept = within_all d r.kept (recursion_from_All (IsKept d) r.kept list.kept);
 }
 
 -- ---- the terms

@@ -417,17 +417,43 @@ told_first v a s (branch e t o) n = refl
 told_first v a s (fault c) n = refl
 told_first v a s (done e p) n = refl
 
+-- a node that the walk comes to, or goes by, before the rest of the nodes
+record IsCome (v : Valuation) (a : Access) (st : EnvData) (cells : ℕ → Bool) (word : ℕ) (steps : List ActData) (s : State) (n : ℕ) (vars : Vars) (p : ActData) : Type 0 where
+  here : IsHere v a st cells word steps (noted s n) n vars p
+  come : is_one (v (passed a (noted s n) n p).out.come) ≡ true
+
+record IsBy (v : Valuation) (a : Access) (steps : List ActData) (s : State) (n to : ℕ) (vars : Vars) (p : ActData) : Type 0 where
+  follows : Follows v a steps (passed a (noted s n) n p).state (n + 1) to vars
+  come : is_one (v (passed a (noted s n) n p).out.come) ≡ false
+
+goes_by : (v : Valuation) (a : Access) (st : EnvData) (cells : ℕ → Bool) (word : ℕ) (steps ps : List ActData) (p : ActData) (s : State) (n to : ℕ) (vars : Vars) → IsOf v a st cells → AreLeft a word steps (p ∷ ps) n → WordsWide v a word s (p ∷ ps) n
+    → IsLawful v (walk_placed a s (p ∷ ps) n).terms → (to ≡ n → ⊥) → Follows v a steps s n to vars → IsBy v a steps s n to vars p
+goes_by v a st cells word steps ps p s n to vars i left wide h ne f =
+    let q = passed a (noted s n) n p in
+    record {
+      follows = not_here v a st cells word (length steps) steps (noted s n) n to vars p i (left.sound n p (first_at a word steps ps p n left)) wide.0 (walk_before v a ps q.state (n + 1) h) ne (noted_follows v a steps s n to vars f);
+      come = ap (λ (j : ℕ). is_one (v j)) (told_first v a (noted s n) p n) ∙ ap is_one (come_false v s n to f.comes ne);
+    }
+
+comes_to : (v : Valuation) (a : Access) (st : EnvData) (cells : ℕ → Bool) (word : ℕ) (steps ps : List ActData) (p : ActData) (s : State) (n to : ℕ) (vars : Vars) → IsOf v a st cells → AreLeft a word steps (p ∷ ps) n → WordsWide v a word s (p ∷ ps) n
+    → IsLawful v (walk_placed a s (p ∷ ps) n).terms → to ≡ n → Follows v a steps s n to vars → IsCome v a st cells word steps s n vars p
+comes_to v a st cells word steps ps p s n to vars i left wide h same f =
+    let at = first_at a word steps ps p n left in
+    let fn : Follows v a steps s n n vars = subst (λ (j : ℕ). Follows v a steps s n j vars) same f in
+    record {
+      here = record { is_of = i; at = at; step = left.sound n p at; clean = left.clean n p at; word_wide = wide.0; lawful = walk_before v a ps (passed a (noted s n) n p).state (n + 1) h; follows = noted_follows v a steps s n n vars fn };
+      come = ap (λ (j : ℕ). is_one (v j)) (told_first v a (noted s n) p n) ∙ ap is_one (come_true v s n fn.comes);
+    }
+
 -- after its end the walk comes to no node
 pub over_none : (v : Valuation) (a : Access) (st : EnvData) (cells : ℕ → Bool) (word : ℕ) (steps ps : List ActData) (s : State) (n to : ℕ) (vars : Vars) → IsOf v a st cells → AreLeft a word steps ps n → WordsWide v a word s ps n
     → IsLawful v (walk_placed a s ps n).terms → to < n → Follows v a steps s n to vars → ((told v ps (walk_placed a s ps n).outs n).path ≡ []) × ((told v ps (walk_placed a s ps n).outs n).reads ≡ []) × ((told v ps (walk_placed a s ps n).outs n).sides ≡ [])
 over_none v a st cells word steps [] s n to vars i left wide h l f = (refl, refl, refl)
 over_none v a st cells word steps (p ∷ ps) s n to vars i left wide h l f =
     let q = passed a (noted s n) n p in
-    let at = first_at a word steps ps p n left in
-    let z : is_one (v q.out.come) ≡ false = ap (λ (j : ℕ). is_one (v j)) (told_first v a (noted s n) p n) ∙ ap is_one (come_false v s n to f.comes (λ e. omega arith)) in
-    let hq : IsLawful v q.state.terms = walk_before v a ps q.state (n + 1) h in
-    let g = not_here v a st cells word (length steps) steps (noted s n) n to vars p i (left.sound n p at) wide.0 hq (λ e. omega arith) (noted_follows v a steps s n to vars f) in
-    let d = over_none v a st cells word steps ps q.state (n + 1) to vars i (left_next a word steps ps p n left) wide.1 h (omega arith) g in
+    let by = goes_by v a st cells word steps ps p s n to vars i left wide h (λ e. omega (arith, e, l)) f in
+    let z : is_one (v q.out.come) ≡ false = by.come in
+    let d = over_none v a st cells word steps ps q.state (n + 1) to vars i (left_next a word steps ps p n left) wide.1 h (omega arith) by.follows in
     let rest = told v ps (walk_placed a q.state ps (n + 1)).outs (n + 1) in
     (ap (λ (b : Bool). (cond b (told_step v n p q.out rest) rest).path) z ∙ d.0, ap (λ (b : Bool). (cond b (told_step v n p q.out rest) rest).reads) z ∙ d.1, ap (λ (b : Bool). (cond b (told_step v n p q.out rest) rest).sides) z ∙ d.2)
 
@@ -442,23 +468,16 @@ walk_told v a st cells word steps (p ∷ ps) s n to vars i left wide h l m f =
     by_place : ((to2 : ℕ) (vars2 : Vars) → n + 1 ≤ to2 → to2 < length steps → Follows v a steps (passed a (noted s n) n p).state (n + 1) to2 vars2 → walk_with st cells (words_of v (walk_placed a (passed a (noted s n) n p).state ps (n + 1)).outs) ps (n + 1) to2 vars2 ≡ told v ps (walk_placed a (passed a (noted s n) n p).state ps (n + 1)).outs (n + 1)) → (eqb n to ≡ true) ⊎ (eqb n to ≡ false) → walk_with st cells (words_of v (walk_placed a s (p ∷ ps) n).outs) (p ∷ ps) n to vars ≡ told v (p ∷ ps) (walk_placed a s (p ∷ ps) n).outs n
     by_place ih (inr e) =
         let q = passed a (noted s n) n p in
-        let at = first_at a word steps ps p n left in
         let ne : to ≡ n → ⊥ = λ z. eqb-false n to e (sym z) in
-        let z : is_one (v q.out.come) ≡ false = ap (λ (j : ℕ). is_one (v j)) (told_first v a (noted s n) p n) ∙ ap is_one (come_false v s n to f.comes ne) in
-        let hq : IsLawful v q.state.terms = walk_before v a ps q.state (n + 1) h in
-        let g = not_here v a st cells word (length steps) steps (noted s n) n to vars p i (left.sound n p at) wide.0 hq ne (noted_follows v a steps s n to vars f) in
+        let by = goes_by v a st cells word steps ps p s n to vars i left wide h ne f in
         let r = walk_placed a q.state ps (n + 1) in
         let rest = told v ps r.outs (n + 1) in
         let go = walk_with st cells (words_of v r.outs) ps (n + 1) in
-        let d = ih to vars (omega (arith, l, ne)) m g in
-        ap (λ (b : Bool). cond b (acted_with st cells (v q.out.word).bits n p go vars) (go to vars)) e ∙ d ∙ sym (ap (λ (b : Bool). cond b (told_step v n p q.out rest) rest) z)
+        let d = ih to vars (omega (arith, l, ne)) m by.follows in
+        ap (λ (b : Bool). cond b (acted_with st cells (v q.out.word).bits n p go vars) (go to vars)) e ∙ d ∙ sym (ap (λ (b : Bool). cond b (told_step v n p q.out rest) rest) by.come)
     by_place ih (inl e) =
         let q = passed a (noted s n) n p in
-        let at = first_at a word steps ps p n left in
-        let same : to ≡ n = sym (eqb-true n to e) in
-        let fn : Follows v a steps s n n vars = subst (λ (j : ℕ). Follows v a steps s n j vars) same f in
-        let z : is_one (v q.out.come) ≡ true = ap (λ (j : ℕ). is_one (v j)) (told_first v a (noted s n) p n) ∙ ap is_one (come_true v s n fn.comes) in
-        let hq : IsLawful v q.state.terms = walk_before v a ps q.state (n + 1) h in
+        let c = comes_to v a st cells word steps ps p s n to vars i left wide h (sym (eqb-true n to e)) f in
         let r = walk_placed a q.state ps (n + 1) in
         let rest = told v ps r.outs (n + 1) in
         let go = walk_with st cells (words_of v r.outs) ps (n + 1) in
@@ -467,8 +486,8 @@ walk_told v a st cells word steps (p ∷ ps) s n to vars i left wide h l m f =
           over = λ vars2 g. over_none v a st cells word steps ps q.state (n + 1) n vars2 i (left_next a word steps ps p n left) wide.1 h (omega arith) g;
         } in
         ap (λ (b : Bool). cond b (acted_with st cells (v q.out.word).bits n p go vars) (go to vars)) e
-        ∙ here v a st cells word steps (noted s n) n vars go rest p (record { is_of = i; at = at; step = left.sound n p at; clean = left.clean n p at; word_wide = wide.0; lawful = hq; follows = noted_follows v a steps s n n vars fn }) on
-        ∙ sym (ap (λ (b : Bool). cond b (told_step v n p q.out rest) rest) z)
+        ∙ here v a st cells word steps (noted s n) n vars go rest p c.here on
+        ∙ sym (ap (λ (b : Bool). cond b (told_step v n p q.out rest) rest) c.come)
 
 -- ---- the end
 
@@ -522,38 +541,27 @@ ends_once v a st cells word steps (p ∷ ps) s n to vars i left wide h l m f =
         → (eqb n to ≡ true) ⊎ (eqb n to ≡ false) → (is_end p ≡ true) ⊎ (is_end p ≡ false) → EndsOnce v (p ∷ ps) (walk_placed a s (p ∷ ps) n).outs (told v (p ∷ ps) (walk_placed a s (p ∷ ps) n).outs n).end
     by_place ih (inr e) x =
         let q = passed a (noted s n) n p in
-        let at = first_at a word steps ps p n left in
         let ne : to ≡ n → ⊥ = λ z. eqb-false n to e (sym z) in
-        let z : is_one (v q.out.come) ≡ false = ap (λ (j : ℕ). is_one (v j)) (told_first v a (noted s n) p n) ∙ ap is_one (come_false v s n to f.comes ne) in
-        let hq : IsLawful v q.state.terms = walk_before v a ps q.state (n + 1) h in
-        let g = not_here v a st cells word (length steps) steps (noted s n) n to vars p i (left.sound n p at) wide.0 hq ne (noted_follows v a steps s n to vars f) in
+        let by = goes_by v a st cells word steps ps p s n to vars i left wide h ne f in
         let r = walk_placed a q.state ps (n + 1) in
         let rest = told v ps r.outs (n + 1) in
         inr (
-          ap (λ (b : Bool). is_end p && b) z ∙ and_right (is_end p) false refl,
-          subst (λ (b : Bool). EndsOnce v ps r.outs (cond b (told_step v n p q.out rest) rest).end) (sym z) (ih to vars (omega (arith, l, ne)) m g),
+          ap (λ (b : Bool). is_end p && b) by.come ∙ and_right (is_end p) false refl,
+          subst (λ (b : Bool). EndsOnce v ps r.outs (cond b (told_step v n p q.out rest) rest).end) (sym by.come) (ih to vars (omega (arith, l, ne)) m by.follows),
         )
     by_place ih (inl e) (inl x) =
         let q = passed a (noted s n) n p in
-        let at = first_at a word steps ps p n left in
-        let same : to ≡ n = sym (eqb-true n to e) in
-        let fn : Follows v a steps s n n vars = subst (λ (j : ℕ). Follows v a steps s n j vars) same f in
-        let z : is_one (v q.out.come) ≡ true = ap (λ (j : ℕ). is_one (v j)) (told_first v a (noted s n) p n) ∙ ap is_one (come_true v s n fn.comes) in
-        let hq : IsLawful v q.state.terms = walk_before v a ps q.state (n + 1) h in
+        let c = comes_to v a st cells word steps ps p s n to vars i left wide h (sym (eqb-true n to e)) f in
         let r = walk_placed a q.state ps (n + 1) in
         let rest = told v ps r.outs (n + 1) in
-        let none : rest.path ≡ [] = (over_none v a st cells word steps ps q.state (n + 1) n vars i (left_next a word steps ps p n left) wide.1 h (omega arith) (over_end v a st cells word steps (noted s n) n vars p (noted_follows v a steps s n n vars fn) x)).0 in
-        subst (λ (b : Bool). EndsOnce v (p ∷ ps) (q.out ∷ r.outs) (cond b (told_step v n p q.out rest) rest).end) (sym z)
-        (inl (z, end_told v n p q.out rest x, none_told v ps r.outs (n + 1) none))
+        let none : rest.path ≡ [] = (over_none v a st cells word steps ps q.state (n + 1) n vars i (left_next a word steps ps p n left) wide.1 h (omega arith) (over_end v a st cells word steps (noted s n) n vars p c.here.follows x)).0 in
+        subst (λ (b : Bool). EndsOnce v (p ∷ ps) (q.out ∷ r.outs) (cond b (told_step v n p q.out rest) rest).end) (sym c.come)
+        (inl (c.come, end_told v n p q.out rest x, none_told v ps r.outs (n + 1) none))
     by_place ih (inl e) (inr x) =
         let q = passed a (noted s n) n p in
-        let at = first_at a word steps ps p n left in
-        let same : to ≡ n = sym (eqb-true n to e) in
-        let fn : Follows v a steps s n n vars = subst (λ (j : ℕ). Follows v a steps s n j vars) same f in
-        let z : is_one (v q.out.come) ≡ true = ap (λ (j : ℕ). is_one (v j)) (told_first v a (noted s n) p n) ∙ ap is_one (come_true v s n fn.comes) in
-        let hq : IsLawful v q.state.terms = walk_before v a ps q.state (n + 1) h in
+        let c = comes_to v a st cells word steps ps p s n to vars i left wide h (sym (eqb-true n to e)) f in
         let r = walk_placed a q.state ps (n + 1) in
         let rest = told v ps r.outs (n + 1) in
-        let later : EndsOnce v ps r.outs rest.end = goes_on v a st cells word steps (noted s n) n vars (EndsOnce v ps r.outs rest.end) p (record { is_of = i; at = at; step = left.sound n p at; clean = left.clean n p at; word_wide = wide.0; lawful = hq; follows = noted_follows v a steps s n n vars fn }) x ih in
-        subst (λ (b : Bool). EndsOnce v (p ∷ ps) (q.out ∷ r.outs) (cond b (told_step v n p q.out rest) rest).end) (sym z)
+        let later : EndsOnce v ps r.outs rest.end = goes_on v a st cells word steps (noted s n) n vars (EndsOnce v ps r.outs rest.end) p c.here x ih in
+        subst (λ (b : Bool). EndsOnce v (p ∷ ps) (q.out ∷ r.outs) (cond b (told_step v n p q.out rest) rest).end) (sym c.come)
         (inr (and_left (is_end p) _ x, subst (λ (d : End). EndsOnce v ps r.outs d) (sym (end_later v n p q.out rest x)) later))

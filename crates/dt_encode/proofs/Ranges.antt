@@ -40,7 +40,7 @@ kept_is v d r m oss c all b =
     ∙ ap (λ (l : List Block). map (is_kept l (tables_of (steps d) (map (λ os. told v (steps d) os 0) oss))) r.kept) b.pages
     ∙ ap (λ (l : List Block). map (is_kept (blocks_made v come_of (pages d oss)) l) r.kept) b.tables
 
-within_all : (d : ModelData) (ks : List KeptRange) → AllByRecursion (IsKept d) ks → AllByRecursion (λ (k : KeptRange). k.hi ≤ 2 ^ d.address) ks
+pub within_all : (d : ModelData) (ks : List KeptRange) → AllByRecursion (IsKept d) ks → AllByRecursion (λ (k : KeptRange). k.hi ≤ 2 ^ d.address) ks
 within_all d [] h = tt
 within_all d (k ∷ ks) h = (h.0.within, within_all d ks h.1)
 
