@@ -156,7 +156,7 @@ demand_tells v d r k a os (Page page) h o =
     ends_tell v (ends_page page) (steps d) os end (is_page page end) h.away h.ends (page_same page end)
 demand_tells v d r k a os (Via n) h o = one_tells v (term (out_at os n).come) _ (sym (visit_told v d os n h.count o))
 demand_tells v d r k a os (Avoid n) h o =
-    one_tells v (term (out_at os n).away) _ (away_at v os n h.away (node_within d os n h o) ∙ ap not (sym (visit_told v d os n h.count o)))
+    one_tells v (term (out_at os n).away) _ (away_at v os n h.away (node_within d os n h.count o) ∙ ap not (sym (visit_told v d os n h.count o)))
 demand_tells v d r k a os (Take n b) h o = by_step (slice_get (steps d) n) refl o
   where
     by_step : (q : Option ActData) → slice_get (steps d) n ≡ q → IsSomeAnd q (λ x. IsTrue (is_fork x)) → Tells v (term (edge_at b (out_at os n)) ∷ []) (leaves (told v (steps d) os 0) n b)

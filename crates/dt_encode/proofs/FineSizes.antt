@@ -26,6 +26,7 @@ use Rattle.dt_encode.specs.Apart.{Sized, same_block, apart_form, apart_forms, pa
 use Rattle.dt_encode.specs.Kept.{touches_form, kept_form, kept_forms}
 use Rattle.dt_encode.specs.Demands.{result_form, quantity_forms, is_masked_form, is_within_form, quantity_width, demand_forms}
 use Rattle.dt_encode.specs.Links.{outs_of, side_at, one_block, one_page, pages_forms, link_forms}
+use Rattle.dt_encode.specs.Outs.{out_at}
 use Rattle.dt_encode.specs.Table.{access_of, wish_forms}
 use Rattle.dt_encode.proofs.Ready.{reads_in}
 
@@ -145,8 +146,8 @@ ends_size test (p ∷ ps) (o ∷ os) = by_step (is_end p && not (test p)) (ends_
 quantity_size : (d : ModelData) (a : Access) (os : List Out) (q : Quantity) (test : ℕ → Form) → ((t : ℕ) → form_size (test t) ≤ 7) → forms_size (quantity_forms d a os q test) ≤ dones_in (steps d) * 8 + 7
 quantity_size d a os (Reg i) test h = let x = h (a.regs + i) in omega (arith, x)
 quantity_size d a os (Input i) test h = let x = h (a.inputs + i) in omega (arith, x)
-quantity_size d a os (Word n) test h = let x = h _ in omega (arith, x)
-quantity_size d a os (Cell n) test h = let x = h _ in omega (arith, x)
+quantity_size d a os (Word n) test h = let x = h (out_at os n).word in omega (arith, x)
+quantity_size d a os (Cell n) test h = let x = h (out_at os n).value in omega (arith, x)
 quantity_size d a os Pa test h =
     let s = size_append (ends_only ends_done (steps d) os) (map (result_form test) (pages_at (steps d) os)) in
     let e = ends_size ends_done (steps d) os in

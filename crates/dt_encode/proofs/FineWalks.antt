@@ -164,10 +164,10 @@ aligned_fine terms a cell h one c = by_case (eqb a.align 0) refl
         (same_fine terms (form1 (Slice (a.align - 1) 0) (term cell)) (number a.align 0) a.align part (number_fine terms a.align 0 wide (pow_pos a.align)), omega arith)
 
 above_fine : (terms : List Term) (a : Access) (cell : ℕ) → IsPlain a → IsSized terms a.zero_term 1 → IsSized terms cell a.address → IsFine terms (above a cell) 1 × (form_size (above a cell) ≤ 3)
-above_fine terms a cell h zero c = by_case (leb (2 ^ a.address) a.lo) refl
+above_fine terms a cell h none c = by_case (leb (2 ^ a.address) a.lo) refl
   where
     by_case : (b : Bool) → leb (2 ^ a.address) a.lo ≡ b → (let f = cond b (term a.zero_term) (not_of (less_of (term cell) (number a.address a.lo))) in IsFine terms f 1 × (form_size f ≤ 3))
-    by_case true e = (term_fine terms a.zero_term 1 zero, omega arith)
+    by_case true e = (term_fine terms a.zero_term 1 none, omega arith)
     by_case false e =
         let l = leb-false (2 ^ a.address) a.lo e in
         (not_fine terms (less_of (term cell) (number a.address a.lo)) (less_fine terms (term cell) (number a.address a.lo) a.address (term_fine terms cell a.address c) (number_fine terms a.address a.lo h.wide (omega (arith, l)))), omega arith)
@@ -182,9 +182,9 @@ below_fine terms a cell h one c = by_case (leb (2 ^ a.address) a.hi) refl
         (less_fine terms (term cell) (number a.address a.hi) a.address (term_fine terms cell a.address c) (number_fine terms a.address a.hi h.wide (omega (arith, l))), omega arith)
 
 cell_fine : (terms : List Term) (a : Access) (cell : ℕ) → IsPlain a → IsSized terms a.zero_term 1 → IsSized terms a.one_term 1 → IsSized terms cell a.address → IsFine terms (is_cell a cell) 1 × (form_size (is_cell a cell) ≤ 10)
-cell_fine terms a cell h zero one c =
+cell_fine terms a cell h none one c =
     let x = aligned_fine terms a cell h one c in
-    let y = above_fine terms a cell h zero c in
+    let y = above_fine terms a cell h none c in
     let z = below_fine terms a cell h one c in
     (both_fine terms (aligned a cell) (both_of (above a cell) (below a cell)) x.0 (both_fine terms (above a cell) (below a cell) y.0 z.0), omega (arith, x.1, y.1, z.1))
 

@@ -278,15 +278,15 @@ branch_follows v a st cells word steps s n vars e t o h =
     record {
       then_is = ap is_one q.then_is ∙ flag_one test;
       on_then = λ d. record {
-          comes = subst (λ (b : Bool). Comes v (part s1 t g.by_then o g.by_other) (n + 1) (cond b t o)) d comes;
-          keeps = λ l. keeps_on v a steps s n t vars then (ap (λ (z : Option ActData). step_exit z then) h.at) k.1 keeps;
-          wide = f.wide;
-        };
+        comes = subst (λ (b : Bool). Comes v (part s1 t g.by_then o g.by_other) (n + 1) (cond b t o)) d comes;
+        keeps = λ l. keeps_on v a steps s n t vars then (ap (λ (z : Option ActData). step_exit z then) h.at) k.1 keeps;
+        wide = f.wide;
+      };
       on_other = λ d. record {
-          comes = subst (λ (b : Bool). Comes v (part s1 t g.by_then o g.by_other) (n + 1) (cond b t o)) d comes;
-          keeps = λ l. keeps_on v a steps s n o vars other (ap (λ (z : Option ActData). step_exit z other) h.at) k.3 keeps;
-          wide = f.wide;
-        };
+        comes = subst (λ (b : Bool). Comes v (part s1 t g.by_then o g.by_other) (n + 1) (cond b t o)) d comes;
+        keeps = λ l. keeps_on v a steps s n o vars other (ap (λ (z : Option ActData). step_exit z other) h.at) k.3 keeps;
+        wide = f.wide;
+      };
     }
 
 -- after a read the walk waits for the target of the side that the test of its cell chooses
@@ -324,18 +324,31 @@ read_follows v a st cells word steps s n vars x e m t o h =
       value_is = w.value_is;
       then_is = ap is_one q.then_is ∙ flag_one b;
       on_then = λ d. record {
-          comes = subst (λ (d : Bool). Comes v (part s2 t g.by_then o g.by_other) (n + 1) (cond d t o)) d comes;
-          keeps = λ l. assign_true v a steps s1 x g.by_then s.word t (v s.word).bits vars h4 (q.then_is ∙ ap flag d) word_is
-              (λ j ne. ⊎_elim (λ (p : IsBound v (named a s) vars j). inl p) (λ (p : SomePath steps n j false). inr (extend steps n t j then (record { to = t; assigns = Some x }) (ap (λ (z : Option ActData). step_exit z then) h.at) refl k.2 ne p)) (keeps j));
-          wide = wide;
-        };
+        comes = subst (λ (d : Bool). Comes v (part s2 t g.by_then o g.by_other) (n + 1) (cond d t o)) d comes;
+        keeps = λ l. assign_true v a steps s1 x g.by_then s.word t (v s.word).bits vars h4 (q.then_is ∙ ap flag d) word_is
+            (λ j ne. ⊎_elim (λ (p : IsBound v (named a s) vars j). inl p) (λ (p : SomePath steps n j false). inr (extend steps n t j then (record { to = t; assigns = Some x }) (ap (λ (z : Option ActData). step_exit z then) h.at) refl k.2 ne p)) (keeps j));
+        wide = wide;
+      };
       on_other = λ d. record {
-          comes = subst (λ (d : Bool). Comes v (part s2 t g.by_then o g.by_other) (n + 1) (cond d t o)) d comes;
-          keeps = λ l. assign_false v a steps s1 x g.by_then s.word o word vars h4 (q.then_is ∙ ap flag d) k.1 u f.wide
-              (keeps_on v a steps s n o vars other (ap (λ (z : Option ActData). step_exit z other) h.at) k.4 keeps);
-          wide = wide;
-        };
+        comes = subst (λ (d : Bool). Comes v (part s2 t g.by_then o g.by_other) (n + 1) (cond d t o)) d comes;
+        keeps = λ l. assign_false v a steps s1 x g.by_then s.word o word vars h4 (q.then_is ∙ ap flag d) k.1 u f.wide
+            (keeps_on v a steps s n o vars other (ap (λ (z : Option ActData). step_exit z other) h.at) k.4 keeps);
+        wide = wide;
+      };
     }
+
+-- a read that is made, or isn't
+read_step : (b : Bool) (u n cell x t o : ℕ) (go : ℕ → Vars → RunData) (vars : Vars) (rest : RunData) → (b ≡ true → go t (bound vars x u) ≡ rest) → (b ≡ false → go o vars ≡ rest)
+    → visit n (read_of (cond b (Some u) None) n cell x t o go vars) ≡ record { path = n ∷ rest.path; sides = record { node = n; by_then = b } ∷ rest.sides; reads = made_if b (record { node = n; cell = cell; word = u }) rest.reads; end = rest.end }
+read_step true u n cell x t o go vars rest h k = ap (λ (r : RunData). visit n (made (record { node = n; cell = cell; word = u }) (left n true r))) (h refl)
+read_step false u n cell x t o go vars rest h k = ap (λ (r : RunData). visit n (left n false r)) (k refl)
+
+-- an end after which nothing is told
+ended_told : (n : ℕ) (e : End) (rest : RunData) → rest.path ≡ [] → rest.reads ≡ [] → rest.sides ≡ [] → ended n e ≡ record { path = n ∷ rest.path; sides = rest.sides; reads = rest.reads; end = e }
+ended_told n e rest p r s =
+    ap (λ (l : List ℕ). record { path = n ∷ l; sides = []; reads = []; end = e }) (sym p)
+    ∙ ap (λ (l : List ReadMade). record { path = n ∷ rest.path; sides = []; reads = l; end = e }) (sym r)
+    ∙ ap (λ (l : List SideTaken). record { path = n ∷ rest.path; sides = l; reads = rest.reads; end = e }) (sym s)
 
 here : (v : Valuation) (a : Access) (st : EnvData) (cells : ℕ → Bool) (word : ℕ) (steps : List ActData) (s : State) (n : ℕ) (vars : Vars) (go : ℕ → Vars → RunData) (rest : RunData) (p : ActData)
     → IsHere v a st cells word steps s n vars p → GoesOn v a steps (passed a s n p).state n go rest
