@@ -1,19 +1,18 @@
 -- An accepted model has what its problems ask of it.
-use Rattle.std.proofs.Common.{◌≡◌, ℕ, zero, suc, ◌*◌, ◌/◌, ◌<◌, ◌^◌, Bool, true, false, not, ◌&&◌, ◌||◌, eqb, List, [], ◌∷◌, Option, Some, None, length, map, ◌⊎◌, inl, inr, ⊎_elim, refl, sym, ap, ◌∙◌, subst, arith}
-use Rattle.std.specs.Prelude.{IsSome, IsSomeAnd, is_some, slice_get, Contains}
-use Rattle.std.proofs.lemmas.Bool.{false_from_ne_true, or_parts, false≢true, not-false, eqb-true, or_cases}
+use Rattle.std.proofs.Common.{◌≡◌, ℕ, zero, suc, ◌*◌, ◌/◌, ◌<◌, ◌^◌, Bool, true, false, not, ◌&&◌, ◌||◌, eqb, List, [], ◌∷◌, Option, Some, None, length, ⊎_elim, refl, sym, ap, ◌∙◌, subst, arith}
+use Rattle.std.specs.Prelude.{IsSome, is_some, slice_get, Contains}
+use Rattle.std.proofs.lemmas.Bool.{false_from_ne_true, or_parts, false≢true, eqb-true, or_cases}
 use Rattle.std.proofs.lemmas.List.{length-map}
 use Rattle.std.proofs.lemmas.List.Elements.{recursion_from_All, All-contains_itself, All-weaker}
 use Rattle.dt_model.proofs.Fitting.{fitted_parts}
 use Rattle.dt_model.proofs.Accepting.{same_width}
 use Rattle.dt_model.proofs.Nodes.{act_at}
 use Rattle.dt_model.specs.declared.model.Named.{Named}
-use Rattle.dt_model.specs.declared.refusal.ModelRefusal.{ModelRefusal}
 use Rattle.dt_model.specs.declared.refusal.ModelRefusal.TheVariants.{WidthMismatch, WidthRange, Unassigned, NoNode}
-use Rattle.dt_model.specs.declared.refusal.Place.TheVariants.{Header, Node as At}
-use Rattle.dt_model.specs.ModelData.{ModelData, Tree, ActData, NodeData, bind, read, branch, fault, done, value, reg, input, var, apply1, apply2, apply3}
+use Rattle.dt_model.specs.declared.refusal.Place.TheVariants.{Header}
+use Rattle.dt_model.specs.ModelData.{ModelData, Tree, ActData, bind, read, branch, fault, done, value, reg, input, var, apply1, apply2, apply3}
 use Rattle.dt_model.specs.Widths.{Scope, tree_width, width_at, differs, uses, HasArities}
-use Rattle.dt_model.specs.Faults.{IsAccepted, HaveArities, NodeBreaks, UsesLeft, context_scope, access_scope, node_scope, on_tree, step_mismatch, steps, tree_in, is_word, is_address}
+use Rattle.dt_model.specs.Faults.{IsAccepted, HaveArities, UsesLeft, context_scope, access_scope, node_scope, on_tree, step_mismatch, steps, tree_in, is_word, is_address}
 use Rattle.dt_model.specs.Widths.{has_mismatch}
 use Rattle.dt_walk.specs.Sound.{IsSound}
 use Rattle.dt_walk.proofs.Sound.{accepted_sound, context_rule, access_rule, fine}

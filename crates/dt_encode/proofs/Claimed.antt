@@ -1,5 +1,5 @@
 -- The claims of a list hold of an image exactly where their forms hold of the values that tell the image.
-use Rattle.std.proofs.Common.{◌≡◌, ℕ, zero, suc, ◌+◌, ◌<◌, ◌≤◌, ◌^◌, Bool, not, List, Option, Some, None, [], ◌∷◌, ◌++◌, length, map, refl, sym, ap, ◌∙◌, subst, arith}
+use Rattle.std.proofs.Common.{◌≡◌, ℕ, zero, suc, ◌+◌, ◌<◌, ◌≤◌, ◌^◌, Bool, not, List, Option, Some, None, [], ◌∷◌, length, map, refl, sym, ap, ◌∙◌, subst, arith}
 use Rattle.std.specs.Prelude.{slice_index_or, slice_get, IsSome, IsSomeAnd, IsTrue}
 use Rattle.std.specs.List.{flat_map, zip, AllByRecursion}
 use Rattle.std.proofs.lemmas.List.{length-map}
@@ -19,7 +19,7 @@ use Rattle.dt_image.specs.declared.image.ImageAccess.{ImageAccess}
 use Rattle.dt_satisfy.specs.Demands.{Made, meets, visits, leaves, is_done, is_fault, is_page, is_masked, is_within}
 use Rattle.dt_satisfy.specs.Claims.{registers, run_of, made_of, demand_claims}
 use Rattle.dt_forms.specs.Meaning.{Valuation, is_one}
-use Rattle.dt_forms.specs.Forms.{Form, term, form_value}
+use Rattle.dt_forms.specs.Forms.{term}
 use Rattle.dt_forms.proofs.Tells.{Tells, one_tells, TellAll, none_tell, tell_as, many_tell, each_tells}
 use Rattle.dt_encode.specs.Passing.{Out}
 use Rattle.dt_encode.specs.Told.{told}

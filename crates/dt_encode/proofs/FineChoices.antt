@@ -1,13 +1,12 @@
 -- The choices of a list and its two constants are well formed, and stand where the arithmetic of positions says with their widths.
-use Rattle.std.proofs.Common.{◌≡◌, ℕ, zero, suc, ◌+◌, ◌*◌, ◌<◌, ◌≤◌, Bool, true, List, [], ◌∷◌, ◌++◌, length, map, replicate, take, get_or, Option, Some, None, refl, sym, ap, ◌∙◌, subst, arith, length-append}
+use Rattle.std.proofs.Common.{◌≡◌, ℕ, zero, suc, ◌+◌, ◌*◌, ◌<◌, true, List, [], ◌∷◌, ◌++◌, length, replicate, take, Option, Some, None, refl, ap, ◌∙◌, subst, arith}
 use Rattle.std.specs.Prelude.{slice_get, option_map}
 use Rattle.std.specs.List.{flat_map, AllByRecursion}
-use Rattle.std.proofs.lemmas.List.{length-map, append_assoc}
-use Rattle.std.proofs.lemmas.Option.{slice_get-map, slice_get_within, get_or_from_slice_get, slice_get-get_or}
+use Rattle.std.proofs.lemmas.List.{append_assoc}
+use Rattle.std.proofs.lemmas.Option.{slice_get-map, slice_get_within, get_or_from_slice_get}
 use Rattle.dt_lemmas.proofs.Lists.{AllByRecursion-append}
 use Rattle.dt_bits.specs.Bits.{IsWidth, width}
 use Rattle.dt_bits.specs.declared.op.Op.TheVariants.{Const}
-use Rattle.dt_bits.specs.declared.value.Width.{Width}
 use Rattle.dt_model.specs.declared.model.Named.{Named as NamedWidth}
 use Rattle.dt_model.specs.ModelData.{ModelData}
 use Rattle.dt_model.specs.Widths.{AreWidths, width_at}
@@ -15,8 +14,7 @@ use Rattle.dt_request.specs.declared.list.Requests.{Requests}
 use Rattle.dt_request.specs.Choices.{read_nodes}
 use Rattle.dt_terms.specs.declared.term.Term.{Term}
 use Rattle.dt_terms.specs.declared.term.Term.TheVariants.{Choice, Node}
-use Rattle.dt_terms.specs.Terms.{AreTerms, IsTerm, term_at, bits_at, width_of_term, is_choice}
-use Rattle.dt_terms.specs.Additions.{node_of}
+use Rattle.dt_terms.specs.Terms.{AreTerms, IsTerm, term_at, width_of_term, is_choice}
 use Rattle.dt_terms.proofs.Additions.{AreTerms-push, node_is}
 use Rattle.dt_forms.specs.Sizes.{Grows}
 use Rattle.dt_forms.proofs.Fine.{IsSized, sized_on, mul_more}

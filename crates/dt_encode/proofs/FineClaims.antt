@@ -1,18 +1,16 @@
 -- The claims of a list can be put behind the terms of its accesses, each of one bit, and how many terms they take.
-use Rattle.std.proofs.Common.{◌≡◌, ℕ, zero, suc, ◌+◌, ◌-◌, ◌*◌, ◌/◌, ◌<◌, ◌≤◌, ◌^◌, Bool, true, false, cond, not, ◌&&◌, eqb, leb, ltb, List, [], ◌∷◌, ◌++◌, length, map, Option, Some, None, refl, sym, ap, ◌∙◌, subst, arith}
+use Rattle.std.proofs.Common.{◌≡◌, ℕ, zero, suc, ◌+◌, ◌-◌, ◌/◌, ◌<◌, ◌≤◌, ◌^◌, Bool, true, false, cond, not, ◌&&◌, eqb, leb, ltb, List, [], ◌∷◌, ◌++◌, length, map, Option, Some, None, refl, sym, subst, arith}
 use Rattle.std.specs.Prelude.{slice_get, max, unwrap_or, IsTrue, IsSomeAnd}
 use Rattle.std.specs.List.{flat_map, AllByRecursion}
 use Rattle.std.proofs.Math.Nat.{div-le_self}
 use Rattle.std.proofs.lemmas.Bool.{leb-false, ltb-true, false≢true}
-use Rattle.dt_lemmas.proofs.Lists.{AllByRecursion-append, element}
+use Rattle.dt_lemmas.proofs.Lists.{element}
 use Rattle.dt_bits.specs.Bits.{IsWidth}
-use Rattle.dt_bits.specs.declared.op.Op.TheVariants.{Or, Shr}
+use Rattle.dt_bits.specs.declared.op.Op.TheVariants.{Shr}
 use Rattle.dt_model.specs.declared.model.Named.{Named as NamedWidth}
 use Rattle.dt_model.specs.ModelData.{ModelData, ActData, bind, read, branch, fault, done}
 use Rattle.dt_model.specs.Faults.{steps, is_read}
 use Rattle.dt_model.specs.Widths.{AreWidths, width_at}
-use Rattle.dt_request.specs.declared.list.AccessWish.{AccessWish}
-use Rattle.dt_request.specs.declared.list.Requests.{Requests}
 use Rattle.dt_request.specs.declared.list.KeptRange.{KeptRange}
 use Rattle.dt_request.specs.declared.list.Side.{Side}
 use Rattle.dt_request.specs.declared.list.Link.{Link}
@@ -21,10 +19,9 @@ use Rattle.dt_request.specs.declared.list.Demand.{Demand}
 use Rattle.dt_request.specs.declared.list.Demand.TheVariants.{Via, Avoid, Take, EndDone, EndFault, Page, Bits, Span}
 use Rattle.dt_request.specs.declared.list.Quantity.{Quantity}
 use Rattle.dt_request.specs.declared.list.Quantity.TheVariants.{Reg, Input, Word, Cell, Pa}
-use Rattle.dt_request.specs.Lists.{IsNode, IsFork, IsReadNode, IsDemand, CanBe, IsSide, IsLink, IsKept, is_fork, width_of, read_width}
+use Rattle.dt_request.specs.Lists.{IsNode, IsReadNode, IsDemand, CanBe, IsSide, IsLink, is_fork, width_of, read_width}
 use Rattle.dt_terms.specs.declared.term.Term.{Term}
-use Rattle.dt_forms.specs.Forms.{Form, term, number, form1, form2, not_of, both_of, implies, same_of, less_of}
-use Rattle.dt_forms.specs.Sizes.{form_size}
+use Rattle.dt_forms.specs.Forms.{Form, term, number, form1, not_of, both_of, implies, same_of, less_of}
 use Rattle.dt_forms.proofs.Fine.{IsSized, IsFine, AreFine, term_fine, number_fine, not_fine, and_fine, both_fine, or_fine, implies_fine, same_fine, less_fine, shr_fine, fine_map, fine_append, fine_flat}
 use Rattle.dt_encode.specs.Passing.{Access, Out}
 use Rattle.dt_encode.specs.Claims.{is_end, ends_done, ends_fault, ends_page, ends_only, pair_form, pair_forms, reads_of}

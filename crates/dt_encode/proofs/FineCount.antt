@@ -1,17 +1,15 @@
 -- The problem of a list within the limits has 4,000,000 terms at most.
-use Rattle.std.proofs.Common.{◌≡◌, ℕ, zero, suc, ◌+◌, ◌-◌, ◌*◌, ◌<◌, ◌≤◌, Bool, true, false, cond, ◌||◌, List, [], ◌∷◌, ◌++◌, length, map, take, replicate, Some, refl, sym, ap, ◌∙◌, subst, arith, length-append}
-use Rattle.std.specs.Prelude.{nat_le, nat_lt}
+use Rattle.std.proofs.Common.{◌≡◌, ℕ, ◌+◌, ◌-◌, ◌*◌, ◌≤◌, cond, List, [], ◌∷◌, ◌++◌, length, map, take, refl, ap, ◌∙◌, subst, arith, length-append}
 use Rattle.std.specs.List.{flat_map}
 use Rattle.std.proofs.Math.Nat.{mul-le-mul, mul-le-mul_left, mul-le-mul_right, mul-add, mul_left_comm}
 use Rattle.std.proofs.lemmas.Bool.{or_parts, ltb-false, false_from_ne_true}
-use Rattle.std.proofs.lemmas.List.{length-map, take_all}
+use Rattle.std.proofs.lemmas.List.{take_all}
 use Rattle.std.proofs.lemmas.List.Elements.{All-from_recursion}
 use Rattle.std.proofs.lemmas.List.Recursion.{is_sum_by, is_count_by}
 use Rattle.dt_lemmas.proofs.Lists.{element, length_flat}
-use Rattle.dt_bits.specs.Bits.{width}
 use Rattle.dt_model.specs.declared.refusal.ModelRefusal.TheVariants.{TooMany}
 use Rattle.dt_model.specs.ModelData.{ModelData, Tree, ActData, NodeData, bind, read, branch, fault, done}
-use Rattle.dt_model.specs.Faults.{IsAccepted, HaveArities, steps, is_read, is_done, count_of, step_operators, rule_operators, node_operators, operators_to}
+use Rattle.dt_model.specs.Faults.{IsAccepted, HaveArities, steps, is_done, count_of, step_operators, rule_operators, node_operators, operators_to}
 use Rattle.dt_model.specs.Widths.{operators}
 use Rattle.dt_model.proofs.Accepting.{few_regs, few_inputs, few_context_rules, few_access_rules, some_nodes}
 use Rattle.dt_walk.proofs.Sound.{fine}
@@ -19,20 +17,19 @@ use Rattle.dt_request.specs.declared.list.Requests.{Requests}
 use Rattle.dt_request.specs.Choices.{read_nodes}
 use Rattle.dt_request.specs.Lists.{IsList}
 use Rattle.dt_terms.specs.Problem.{IsProblem, IsTest, most_terms}
-use Rattle.dt_forms.specs.Forms.{Form}
 use Rattle.dt_forms.proofs.Fine.{forms_size, size_append}
 use Rattle.dt_encode.specs.Passing.{Out}
 use Rattle.dt_encode.specs.Claims.{pair_forms, reads_of}
 use Rattle.dt_encode.specs.Apart.{pages_at, tables_at}
 use Rattle.dt_encode.specs.Links.{link_forms}
-use Rattle.dt_encode.specs.Sizes.{IsWithin, done_nodes, model_operators, read_product, done_product, term_product}
+use Rattle.dt_encode.specs.Sizes.{IsWithin, done_nodes, model_operators, read_product, done_product}
 use Rattle.dt_encode.specs.Table.{names_chosen, access_chosen, choices, list_access, bit_node, start, built, wish_forms, page_forms, keep_forms, list_forms, claim_forms, table}
 use Rattle.dt_encode.proofs.Ready.{reads_in, reads_in_nodes, access_length}
 use Rattle.dt_encode.proofs.Stand.{names_length, repeated_length}
 use Rattle.dt_encode.proofs.FineWalks.{steps_size}
 use Rattle.dt_encode.proofs.FineLists.{rules_size, access_size}
 use Rattle.dt_encode.proofs.FineSizes.{dones_in, pages_count, tables_count, reads_count, aparts_size, pairs_size, keeps_size, wishes_size, links_size}
-use Rattle.dt_encode.proofs.FineTable.{IsWhole, base_size, table_whole, wishes_of, wish_few}
+use Rattle.dt_encode.proofs.FineTable.{table_whole, wishes_of, wish_few}
 
 -- ---- operators and nodes
 

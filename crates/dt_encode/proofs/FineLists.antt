@@ -1,13 +1,11 @@
 -- The terms of a list's problem are well formed, and what is required is one bit wide.
-use Rattle.std.proofs.Common.{◌≡◌, ℕ, zero, suc, ◌+◌, ◌*◌, ◌<◌, ◌≤◌, ◌^◌, Bool, true, false, cond, eqb, List, [], ◌∷◌, ◌++◌, length, map, Option, Some, None, refl, sym, ap, ◌∙◌, subst, arith, length-append}
-use Rattle.std.specs.Prelude.{All, slice_get}
+use Rattle.std.proofs.Common.{◌≡◌, ℕ, zero, suc, ◌+◌, ◌*◌, ◌<◌, ◌≤◌, ◌^◌, Bool, true, false, cond, eqb, List, [], ◌∷◌, ◌++◌, length, map, Some, refl, sym, ap, ◌∙◌, subst, arith, length-append}
 use Rattle.std.specs.List.{flat_map, AllByRecursion}
 use Rattle.std.proofs.lemmas.List.{length-map}
-use Rattle.std.proofs.lemmas.List.Elements.{recursion_from_All, All-from_recursion}
 use Rattle.dt_lemmas.proofs.Lists.{AllByRecursion-append}
 use Rattle.dt_bits.specs.Bits.{IsWidth}
-use Rattle.dt_model.specs.ModelData.{ModelData, Tree, ActData}
-use Rattle.dt_model.specs.Faults.{steps, node_scope, context_scope, access_scope}
+use Rattle.dt_model.specs.ModelData.{ModelData, Tree}
+use Rattle.dt_model.specs.Faults.{steps, context_scope, access_scope}
 use Rattle.dt_model.specs.Widths.{Scope, HasArities, tree_width, width_at, operators}
 use Rattle.dt_request.specs.declared.list.AccessWish.{AccessWish}
 use Rattle.dt_request.specs.declared.list.Requests.{Requests}
@@ -18,11 +16,11 @@ use Rattle.dt_terms.specs.declared.term.Term.{Term}
 use Rattle.dt_terms.specs.Terms.{AreTerms}
 use Rattle.dt_terms.specs.Problem.{IsTest}
 use Rattle.dt_forms.specs.Forms.{Form, all_required}
-use Rattle.dt_forms.specs.Sizes.{form_size, Grows}
+use Rattle.dt_forms.specs.Sizes.{Grows}
 use Rattle.dt_forms.proofs.Sizes.{grows_none, grows_on, grows_within}
-use Rattle.dt_forms.proofs.Fine.{IsSized, sized_on, IsFine, AreFine, forms_size, all_stand, tests_on, fine_append, mul_more}
+use Rattle.dt_forms.proofs.Fine.{IsSized, AreFine, forms_size, all_stand, tests_on, fine_append, mul_more}
 use Rattle.dt_encode.specs.Expressions.{Named, form_of}
-use Rattle.dt_encode.specs.Passing.{Access, State, Out, walk_placed}
+use Rattle.dt_encode.specs.Passing.{Out, walk_placed}
 use Rattle.dt_encode.specs.Claims.{pair_forms, reads_of}
 use Rattle.dt_encode.specs.Apart.{Sized, pages_at, tables_at}
 use Rattle.dt_encode.specs.Demands.{demand_forms}
@@ -32,7 +30,7 @@ use Rattle.dt_encode.proofs.Accesses.{length_outs}
 use Rattle.dt_encode.proofs.Ready.{IsReady, access_left, reads_in, reads_in_nodes}
 use Rattle.dt_encode.proofs.FineTrees.{AreSized, tree_fine, tree_size}
 use Rattle.dt_encode.proofs.FineChoices.{AreChosen, chosen_on}
-use Rattle.dt_encode.proofs.FineWalks.{IsPlain, IsSound, IsOutSized, outs_on, steps_size, walk_sound}
+use Rattle.dt_encode.proofs.FineWalks.{IsPlain, IsSound, outs_on, steps_size, walk_sound}
 use Rattle.dt_encode.proofs.FineClaims.{AreBits, AreWide, AreNamesSized, AreOutsSized, pages_sized, tables_sized, reads_sized, aparts_fine, pairs_fine, keeps_fine, demands_fine, links_fine, IsNodeSized, IsReadSized}
 
 -- ---- rules

@@ -1,10 +1,8 @@
 -- How many terms the claims of a list take.
-use Rattle.std.proofs.Common.{◌≡◌, ℕ, zero, suc, ◌+◌, ◌-◌, ◌*◌, ◌/◌, ◌<◌, ◌≤◌, ◌^◌, Bool, true, false, cond, not, ◌&&◌, eqb, leb, ltb, List, [], ◌∷◌, ◌++◌, length, map, refl, sym, ap, ◌∙◌, arith}
+use Rattle.std.proofs.Common.{◌≡◌, ℕ, suc, ◌+◌, ◌-◌, ◌*◌, ◌/◌, ◌≤◌, ◌^◌, Bool, true, false, cond, not, ◌&&◌, eqb, leb, ltb, List, [], ◌∷◌, ◌++◌, length, map, refl, arith}
 use Rattle.std.specs.Prelude.{max}
 use Rattle.std.specs.List.{flat_map, AllByRecursion}
 use Rattle.std.proofs.Math.Nat.{mul-le-mul, mul-le-mul_left, mul-le-mul_right}
-use Rattle.std.proofs.lemmas.List.{length-map}
-use Rattle.dt_lemmas.proofs.Lists.{length_flat}
 use Rattle.dt_bits.specs.declared.op.Op.TheVariants.{Shr}
 use Rattle.dt_model.specs.ModelData.{ModelData, ActData, bind, read, branch, fault, done}
 use Rattle.dt_model.specs.Faults.{steps}
@@ -17,7 +15,7 @@ use Rattle.dt_request.specs.declared.list.Demand.{Demand}
 use Rattle.dt_request.specs.declared.list.Demand.TheVariants.{Via, Avoid, Take, EndDone, EndFault, Page, Bits, Span}
 use Rattle.dt_request.specs.declared.list.Quantity.{Quantity}
 use Rattle.dt_request.specs.declared.list.Quantity.TheVariants.{Reg, Input, Word, Cell, Pa}
-use Rattle.dt_forms.specs.Forms.{Form, term, number, form1, form2, not_of, both_of, implies, same_of, less_of}
+use Rattle.dt_forms.specs.Forms.{Form, term, number, form1, not_of, both_of, implies, same_of, less_of}
 use Rattle.dt_forms.specs.Sizes.{form_size}
 use Rattle.dt_forms.proofs.Fine.{forms_size, size_append, size_map, size_flat, mul_more}
 use Rattle.dt_encode.specs.Passing.{Access, Out}

@@ -1,15 +1,14 @@
 -- Expressions over terms of the right widths can be put behind them.
-use Rattle.std.proofs.Common.{◌≡◌, ℕ, ◌+◌, ◌*◌, ◌≤◌, List, Option, Some, None, refl, sym, ap, ◌∙◌, subst, arith}
+use Rattle.std.proofs.Common.{◌≡◌, ℕ, ◌+◌, ◌*◌, ◌≤◌, List, Option, Some, None, sym, ap, ◌∙◌, subst, arith}
 use Rattle.std.specs.Prelude.{IfSome, unwrap_or}
 use Rattle.std.proofs.lemmas.Nat.{pow_pos}
 use Rattle.dt_bits.specs.Bits.{IsWidth}
 use Rattle.dt_model.specs.ModelData.{Tree, value, reg, input, var, apply1, apply2, apply3}
 use Rattle.dt_model.specs.Widths.{HasArities, tree_width, fitted, width_at, operators}
 use Rattle.dt_terms.specs.declared.term.Term.{Term}
-use Rattle.dt_forms.specs.Forms.{form_placed}
-use Rattle.dt_forms.specs.Sizes.{form_size, Grows}
+use Rattle.dt_forms.specs.Sizes.{form_size}
 use Rattle.dt_forms.proofs.Fitted.{fitted_is}
-use Rattle.dt_forms.proofs.Fine.{IsSized, sized_on, IsFine, term_fine, number_fine, one_fine, two_fine, three_fine}
+use Rattle.dt_forms.proofs.Fine.{IsSized, IsFine, term_fine, number_fine, one_fine, two_fine, three_fine}
 use Rattle.dt_encode.specs.Expressions.{Named, form_of, var_form}
 
 -- names have terms of their widths; a variable that has none has a width

@@ -1,6 +1,6 @@
 -- The terms of an access's nodes are well formed, and of the right widths.
-use Rattle.std.proofs.Common.{◌≡◌, ℕ, zero, suc, ◌+◌, ◌-◌, ◌*◌, ◌<◌, ◌≤◌, ◌^◌, Bool, true, false, cond, eqb, leb, List, [], ◌∷◌, length, Option, Some, None, refl, sym, ap, ◌∙◌, subst, arith}
-use Rattle.std.specs.Prelude.{IfSome, slice_get}
+use Rattle.std.proofs.Common.{◌≡◌, ℕ, suc, ◌+◌, ◌-◌, ◌*◌, ◌<◌, ◌≤◌, ◌^◌, Bool, true, false, cond, eqb, leb, List, [], ◌∷◌, length, Option, Some, None, refl, sym, ap, ◌∙◌, subst, arith}
+use Rattle.std.specs.Prelude.{IfSome}
 use Rattle.std.proofs.lemmas.Nat.{pow_pos}
 use Rattle.std.proofs.lemmas.Bool.{eq-eqb, eqb-false, eqb-true, leb-false, false≢true, cond-true, and_from, lt-ltb, le-leb}
 use Rattle.dt_bits.specs.Bits.{IsWidth}
@@ -10,10 +10,10 @@ use Rattle.dt_model.specs.Faults.{is_read, step_operators}
 use Rattle.dt_model.specs.Widths.{width_at}
 use Rattle.dt_terms.specs.declared.term.Term.{Term}
 use Rattle.dt_terms.specs.Terms.{AreTerms}
-use Rattle.dt_forms.specs.Forms.{Form, term, number, form1, form2, form3, form_placed, not_of, both_of, same_of, less_of}
+use Rattle.dt_forms.specs.Forms.{term, number, form1, form2, form3, form_placed, not_of, both_of, same_of, less_of}
 use Rattle.dt_forms.specs.Sizes.{form_size, Grows}
 use Rattle.dt_forms.proofs.Sizes.{grows_none, grows_on, grows_within}
-use Rattle.dt_forms.proofs.Fine.{IsSized, sized_on, IsFine, fine_on, fine_sized, fine_grows, term_fine, number_fine, one_fine, three_fine, not_fine, both_fine, or_fine, same_fine, less_fine}
+use Rattle.dt_forms.proofs.Fine.{IsSized, sized_on, IsFine, fine_sized, fine_grows, term_fine, number_fine, one_fine, three_fine, not_fine, both_fine, or_fine, same_fine, less_fine}
 use Rattle.dt_encode.specs.Expressions.{form_of}
 use Rattle.dt_encode.specs.Passing.{Access, State, Out, named, with_terms, join, part, chosen, assign, fork, aligned, above, below, is_cell, next_word, passed, noted, walk_placed}
 use Rattle.dt_encode.proofs.FineTrees.{AreSized, tree_fine, tree_size}

@@ -1,7 +1,7 @@
 -- The forms of a link hold exactly where the link does.
 use Rattle.std.proofs.Common.{◌≡◌, ℕ, zero, suc, ◌-◌, ◌*◌, ◌/◌, ◌%◌, ◌<◌, ◌^◌, Bool, true, false, not, ◌&&◌, ◌||◌, cond, eqb, List, [], ◌∷◌, ◌++◌, length, map, Option, Some, None, refl, sym, ap, ◌∙◌, subst, arith}
 use Rattle.std.specs.Prelude.{slice_get, option_map, option_and_then, max, IsTrue, IsSomeAnd}
-use Rattle.std.specs.List.{flat_map, list_all, AllByRecursion}
+use Rattle.std.specs.List.{flat_map, AllByRecursion}
 use Rattle.std.specs.Option.{option_to_list}
 use Rattle.std.proofs.Math.Nat.{div-add-mod, mul-div_cancel_left}
 use Rattle.std.proofs.lemmas.Nat.{pow_pos}
@@ -15,7 +15,7 @@ use Rattle.dt_request.specs.declared.list.Requests.{Requests}
 use Rattle.dt_request.specs.declared.list.Side.{Side}
 use Rattle.dt_request.specs.declared.list.Link.{Link}
 use Rattle.dt_request.specs.declared.list.Link.TheVariants.{ShareTable, ShareCell, SharePage, ApartTable, ApartPage}
-use Rattle.dt_request.specs.Lists.{IsReadNode, IsSide, IsLink}
+use Rattle.dt_request.specs.Lists.{IsSide, IsLink}
 use Rattle.dt_walk.specs.declared.run.End.{End}
 use Rattle.dt_walk.specs.declared.run.End.TheVariants.{Done, Fault}
 use Rattle.dt_walk.specs.declared.run.ReadMade.{ReadMade}

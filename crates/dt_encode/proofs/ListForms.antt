@@ -19,7 +19,7 @@ use Rattle.dt_encode.specs.Passing.{Access, Out}
 use Rattle.dt_encode.specs.Claims.{is_end, ends_done, ends_fault, ends_page, ends_only, pair_form, pair_forms, reads_of}
 use Rattle.dt_encode.specs.Apart.{Sized, same_block, apart_form, apart_forms, pages_at, tables_at}
 use Rattle.dt_encode.specs.Demands.{result_form, quantity_forms, is_masked_form, is_within_form, quantity_width, demand_forms}
-use Rattle.dt_encode.specs.Links.{outs_of, side_at, reads_forms, one_block, apart_blocks, one_cell, one_page, pages_forms, link_forms}
+use Rattle.dt_encode.specs.Links.{outs_of, side_at, one_block, one_page, pages_forms, link_forms}
 use Rattle.dt_encode.specs.Table.{access_of, list_access, wish_forms, page_forms, keep_forms, list_forms, claim_forms, extra_forms}
 use Rattle.dt_encode.proofs.Kept.{kept_have}
 

@@ -1,5 +1,5 @@
 -- A solving assignment tells an image that satisfies the list, and the numbers of a satisfying image are a solving assignment.
-use Rattle.std.proofs.Common.{◌≡◌, ℕ, zero, suc, ◌+◌, ◌<◌, ◌≤◌, ◌^◌, Bool, true, false, cond, eqb, ◌&&◌, List, [], ◌∷◌, ◌++◌, length, take, get_or, ⊎_elim, refl, sym, ap, ◌∙◌, subst, arith, length-append}
+use Rattle.std.proofs.Common.{◌≡◌, ℕ, zero, suc, ◌+◌, ◌<◌, ◌≤◌, ◌^◌, Bool, true, cond, eqb, ◌&&◌, List, [], ◌∷◌, ◌++◌, length, take, get_or, ⊎_elim, refl, sym, ap, ◌∙◌, subst, arith, length-append}
 use Rattle.std.specs.List.{list_all}
 use Rattle.std.proofs.lemmas.Bool.{false≢true, cases_lt, and_parts}
 use Rattle.std.proofs.lemmas.List.{get_or_past}

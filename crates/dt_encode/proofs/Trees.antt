@@ -1,14 +1,14 @@
 -- The term that stands for an expression has its value.
 use Rattle.std.proofs.Common.{◌≡◌, ℕ, ◌+◌, Bool, true, ◌||◌, List, Option, Some, None, refl, ap, ◌∙◌, subst}
 use Rattle.std.specs.Prelude.{IsSome, slice_index, unwrap_or}
-use Rattle.std.proofs.lemmas.Bool.{false≢true, or_left, or_right, eq-eqb}
+use Rattle.std.proofs.lemmas.Bool.{or_left, or_right, eq-eqb}
 use Rattle.dt_lemmas.proofs.Options.{some_is}
 use Rattle.dt_model.proofs.Fitting.{fitted_parts}
 use Rattle.dt_bits.specs.Ops.{applied, width_of}
 use Rattle.dt_bits.specs.declared.op.Op.{Op}
 use Rattle.dt_bits.specs.declared.value.Bv.{Bv}
 use Rattle.dt_model.specs.ModelData.{Tree, value, reg, input, var, apply1, apply2, apply3}
-use Rattle.dt_model.specs.Widths.{Scope, HasArities, tree_width, fitted, width_at, uses, is_constant}
+use Rattle.dt_model.specs.Widths.{Scope, HasArities, tree_width, width_at, uses, is_constant}
 use Rattle.dt_terms.specs.declared.term.Term.{Term}
 use Rattle.dt_walk.specs.Meaning.{EnvData, Vars, value_at, valued, unused}
 use Rattle.dt_encode.specs.Expressions.{Named}

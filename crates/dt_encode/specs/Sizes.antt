@@ -1,5 +1,5 @@
 -- How large a list may be, so that its problem has room.
-use Rattle.std.specs.Prelude.{◌≡◌, ℕ, ◌+◌, ◌*◌, ◌≤◌, length}
+use Rattle.std.specs.Prelude.{ℕ, ◌+◌, ◌*◌, ◌≤◌, length}
 use Rattle.dt_model.specs.ModelData.{ModelData}
 use Rattle.dt_model.specs.Faults.{is_done, count_of, rule_operators, node_operators}
 use Rattle.dt_request.specs.declared.list.Requests.{Requests}

@@ -1,6 +1,6 @@
 -- The values of a problem's terms are lawful.
 use Rattle.dt_forms.specs.Meaning.{values}
-use Rattle.std.proofs.Common.{◌≡◌, ℕ, ◌<◌, List, take, refl, sym, ap, ◌∙◌, arith}
+use Rattle.std.proofs.Common.{◌≡◌, ℕ, ◌<◌, List, take, refl, sym, ap, ◌∙◌}
 use Rattle.std.proofs.lemmas.List.{get_or-take}
 use Rattle.dt_bits.specs.Ops.{value_of}
 use Rattle.dt_bits.proofs.Operators.{value_used}
