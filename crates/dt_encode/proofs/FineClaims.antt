@@ -33,6 +33,7 @@ use Rattle.dt_encode.specs.Outs.{out_at, edge_at}
 use Rattle.dt_encode.proofs.Flagged.{AllOuts}
 use Rattle.dt_encode.proofs.Sides.{out_fact}
 use Rattle.dt_encode.proofs.FineWalks.{IsOutSized}
+use Rattle.dt_encode.proofs.NodeKinds.{pages_have, tables_have, reads_have}
 
 -- ---- what stands for nodes
 
@@ -47,30 +48,12 @@ abbrev pub AreNodesSized : ℕ → ℕ → List Term → List Sized → Type 0
 AreNodesSized address word terms xs = AllByRecursion (λ (x : Sized). IsNodeSized address word terms x.out) xs
 
 pub pages_sized : (address word : ℕ) (terms : List Term) (ps : List ActData) (os : List Out) → AllOuts (IsOutSized address word terms) ps os → AreNodesSized address word terms (pages_at ps os)
-pages_sized address word terms [] os h = tt
-pages_sized address word terms (bind x e to ∷ ps) [] h = tt
-pages_sized address word terms (read x e g t f ∷ ps) [] h = tt
-pages_sized address word terms (branch e t f ∷ ps) [] h = tt
-pages_sized address word terms (fault c ∷ ps) [] h = tt
-pages_sized address word terms (done e p ∷ ps) [] h = tt
-pages_sized address word terms (bind x e to ∷ ps) (o ∷ os) h = pages_sized address word terms ps os h.1
-pages_sized address word terms (read x e g t f ∷ ps) (o ∷ os) h = pages_sized address word terms ps os h.1
-pages_sized address word terms (branch e t f ∷ ps) (o ∷ os) h = pages_sized address word terms ps os h.1
-pages_sized address word terms (fault c ∷ ps) (o ∷ os) h = pages_sized address word terms ps os h.1
-pages_sized address word terms (done e p ∷ ps) (o ∷ os) h = (record { come = h.0.come; by_then = h.0.by_then; away = h.0.away; value = h.0.value refl }, pages_sized address word terms ps os h.1)
+pages_sized address word terms ps os h =
+    pages_have (IsOutSized address word terms) (λ (x : Sized). IsNodeSized address word terms x.out) (λ e p o k. record { come = k.come; by_then = k.by_then; away = k.away; value = k.value refl }) ps os h
 
 pub tables_sized : (address word : ℕ) (terms : List Term) (ps : List ActData) (os : List Out) → AllOuts (IsOutSized address word terms) ps os → AreNodesSized address word terms (tables_at ps os)
-tables_sized address word terms [] os h = tt
-tables_sized address word terms (bind x e to ∷ ps) [] h = tt
-tables_sized address word terms (read x e g t f ∷ ps) [] h = tt
-tables_sized address word terms (branch e t f ∷ ps) [] h = tt
-tables_sized address word terms (fault c ∷ ps) [] h = tt
-tables_sized address word terms (done e p ∷ ps) [] h = tt
-tables_sized address word terms (bind x e to ∷ ps) (o ∷ os) h = tables_sized address word terms ps os h.1
-tables_sized address word terms (branch e t f ∷ ps) (o ∷ os) h = tables_sized address word terms ps os h.1
-tables_sized address word terms (fault c ∷ ps) (o ∷ os) h = tables_sized address word terms ps os h.1
-tables_sized address word terms (done e p ∷ ps) (o ∷ os) h = tables_sized address word terms ps os h.1
-tables_sized address word terms (read x e g t f ∷ ps) (o ∷ os) h = (record { come = h.0.come; by_then = h.0.by_then; away = h.0.away; value = h.0.value refl }, tables_sized address word terms ps os h.1)
+tables_sized address word terms ps os h =
+    tables_have (IsOutSized address word terms) (λ (x : Sized). IsNodeSized address word terms x.out) (λ x e g t f o k. record { come = k.come; by_then = k.by_then; away = k.away; value = k.value refl }) ps os h
 
 -- the terms of a read
 pub record IsReadSized (address word : ℕ) (terms : List Term) (o : Out) : Type 0 where
@@ -79,17 +62,7 @@ pub record IsReadSized (address word : ℕ) (terms : List Term) (o : Out) : Type
   pub word_is : IsSized terms o.word word
 
 pub reads_sized : (address word : ℕ) (terms : List Term) (ps : List ActData) (os : List Out) → AllOuts (IsOutSized address word terms) ps os → AllByRecursion (IsReadSized address word terms) (reads_of ps os)
-reads_sized address word terms [] os h = tt
-reads_sized address word terms (bind x e to ∷ ps) [] h = tt
-reads_sized address word terms (read x e g t f ∷ ps) [] h = tt
-reads_sized address word terms (branch e t f ∷ ps) [] h = tt
-reads_sized address word terms (fault c ∷ ps) [] h = tt
-reads_sized address word terms (done e p ∷ ps) [] h = tt
-reads_sized address word terms (bind x e to ∷ ps) (o ∷ os) h = reads_sized address word terms ps os h.1
-reads_sized address word terms (branch e t f ∷ ps) (o ∷ os) h = reads_sized address word terms ps os h.1
-reads_sized address word terms (fault c ∷ ps) (o ∷ os) h = reads_sized address word terms ps os h.1
-reads_sized address word terms (done e p ∷ ps) (o ∷ os) h = reads_sized address word terms ps os h.1
-reads_sized address word terms (read x e g t f ∷ ps) (o ∷ os) h = (record { by_then = h.0.by_then; value = h.0.value refl; word_is = h.0.word_is refl }, reads_sized address word terms ps os h.1)
+reads_sized address word terms ps os h = reads_have (IsOutSized address word terms) (IsReadSized address word terms) (λ x e g t f o k. record { by_then = k.by_then; value = k.value refl; word_is = k.word_is refl }) ps os h
 
 -- ---- blocks
 

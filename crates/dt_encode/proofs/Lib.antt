@@ -22,6 +22,7 @@ pub mod Kept
 pub mod Linked
 pub mod ListForms
 pub mod Memories
+pub mod NodeKinds
 pub mod Nodes
 pub mod Numbers
 pub mod Oracle

@@ -29,6 +29,7 @@ use Rattle.dt_encode.proofs.Ready.{AreSet}
 use Rattle.dt_encode.proofs.Flagged.{AllOuts, IsFlagged, is_flag}
 use Rattle.dt_encode.proofs.Told.{AllNodes, same_if, reads_if}
 use Rattle.dt_encode.proofs.Claimed.{seen, HaveContexts, AllTold, runs_told}
+use Rattle.dt_encode.proofs.NodeKinds.{pages_have, tables_have}
 
 -- the blocks of these nodes
 abbrev pub blocks_made : Valuation → (Out → ℕ) → List Sized → List Block
@@ -90,30 +91,10 @@ abbrev pub IsBlock : Valuation → ℕ → (Out → ℕ) → Sized → Type 0
 IsBlock v address key x = is_flag v (key x.out) × ((v x.out.value).width.0 ≡ address)
 
 pub pages_flagged : (v : Valuation) (address : ℕ) (ps : List ActData) (os : List Out) → AllOuts (IsFlagged v address) ps os → AllByRecursion (IsBlock v address come_of) (pages_at ps os)
-pages_flagged v address [] os h = tt
-pages_flagged v address (bind x e to ∷ ps) [] h = tt
-pages_flagged v address (read x e g t f ∷ ps) [] h = tt
-pages_flagged v address (branch e t f ∷ ps) [] h = tt
-pages_flagged v address (fault c ∷ ps) [] h = tt
-pages_flagged v address (done e p ∷ ps) [] h = tt
-pages_flagged v address (bind x e to ∷ ps) (o ∷ os) h = pages_flagged v address ps os h.1
-pages_flagged v address (read x e g t f ∷ ps) (o ∷ os) h = pages_flagged v address ps os h.1
-pages_flagged v address (branch e t f ∷ ps) (o ∷ os) h = pages_flagged v address ps os h.1
-pages_flagged v address (fault c ∷ ps) (o ∷ os) h = pages_flagged v address ps os h.1
-pages_flagged v address (done e p ∷ ps) (o ∷ os) h = ((h.0.come_is, h.0.wide refl), pages_flagged v address ps os h.1)
+pages_flagged v address ps os h = pages_have (IsFlagged v address) (IsBlock v address come_of) (λ e p o k. (k.come_is, k.wide refl)) ps os h
 
 tables_flagged : (v : Valuation) (address : ℕ) (ps : List ActData) (os : List Out) → AllOuts (IsFlagged v address) ps os → AllByRecursion (IsBlock v address then_of) (tables_at ps os)
-tables_flagged v address [] os h = tt
-tables_flagged v address (bind x e to ∷ ps) [] h = tt
-tables_flagged v address (read x e g t f ∷ ps) [] h = tt
-tables_flagged v address (branch e t f ∷ ps) [] h = tt
-tables_flagged v address (fault c ∷ ps) [] h = tt
-tables_flagged v address (done e p ∷ ps) [] h = tt
-tables_flagged v address (bind x e to ∷ ps) (o ∷ os) h = tables_flagged v address ps os h.1
-tables_flagged v address (branch e t f ∷ ps) (o ∷ os) h = tables_flagged v address ps os h.1
-tables_flagged v address (fault c ∷ ps) (o ∷ os) h = tables_flagged v address ps os h.1
-tables_flagged v address (done e p ∷ ps) (o ∷ os) h = tables_flagged v address ps os h.1
-tables_flagged v address (read x e g t f ∷ ps) (o ∷ os) h = ((h.0.then_is, h.0.wide refl), tables_flagged v address ps os h.1)
+tables_flagged v address ps os h = tables_have (IsFlagged v address) (IsBlock v address then_of) (λ x e g t f o k. (k.then_is, k.wide refl)) ps os h
 
 -- the pages and tables of all runs, with what holds of their terms
 pub record AreBlocks (v : Valuation) (d : ModelData) (oss : List (List Out)) : Type 0 where

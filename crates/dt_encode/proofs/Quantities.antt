@@ -36,6 +36,7 @@ use Rattle.dt_encode.proofs.Ends.{AreTruths, ends_tell}
 use Rattle.dt_encode.proofs.Flagged.{AllOuts, IsFlagged}
 use Rattle.dt_encode.proofs.Results.{made_from, come_of, page_told}
 use Rattle.dt_encode.proofs.Told.{AreNodes, regs_of, inputs_of, done_same, same_if, reads_if}
+use Rattle.dt_encode.proofs.NodeKinds.{pages_have, each_out}
 
 -- ---- tests of a number
 
@@ -177,17 +178,9 @@ abbrev AreAway : Valuation → List Sized → Type 0
 AreAway v xs = AllByRecursion (λ (x : Sized). v x.out.away ≡ flag (not (is_one (v x.out.come)))) xs
 
 pages_away : (v : Valuation) (ps : List ActData) (os : List Out) → AreTruths v os → AreAway v (pages_at ps os)
-pages_away v [] os h = tt
-pages_away v (bind x e to ∷ ps) [] h = tt
-pages_away v (read x e g t f ∷ ps) [] h = tt
-pages_away v (branch e t f ∷ ps) [] h = tt
-pages_away v (fault c ∷ ps) [] h = tt
-pages_away v (done e p ∷ ps) [] h = tt
-pages_away v (bind x e to ∷ ps) (o ∷ os) h = pages_away v ps os h.1
-pages_away v (read x e g t f ∷ ps) (o ∷ os) h = pages_away v ps os h.1
-pages_away v (branch e t f ∷ ps) (o ∷ os) h = pages_away v ps os h.1
-pages_away v (fault c ∷ ps) (o ∷ os) h = pages_away v ps os h.1
-pages_away v (done e p ∷ ps) (o ∷ os) h = (h.0, pages_away v ps os h.1)
+pages_away v ps os h =
+    let away : Out → Type 0 = λ (o : Out). v o.away ≡ flag (not (is_one (v o.come))) in
+    pages_have (λ (p : ActData) (o : Out). away o) (λ (x : Sized). away x.out) (λ e p o k. k) ps os (each_out away ps os h)
 
 results_tell : (v : Valuation) (form : ℕ → Form) (test : ℕ → Bool) (xs : List Sized) → IsTest v form test → AreAway v xs → Tells v (map (result_form form) xs) (list_all test (made_from address_of v come_of xs))
 results_tell v form test [] is h = none_tells v

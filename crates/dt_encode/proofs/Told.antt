@@ -31,6 +31,7 @@ use Rattle.dt_encode.proofs.Words.{Agree, AllAgree}
 use Rattle.dt_encode.proofs.Ready.{IsReady, AreSet, Fits, access_is, access_left, access_wide}
 use Rattle.dt_encode.proofs.Composed.{IsPlaced}
 use Rattle.dt_encode.proofs.Flagged.{AllOuts, IsFlagged, outs_flagged}
+use Rattle.dt_encode.proofs.NodeKinds.{reads_have}
 
 -- what is known where an access stands
 pub record AtAccess (v : Valuation) (d : ModelData) (r : Requests) (k : ℕ) (a : AccessWish) (m : Memory) : Type 0 where
@@ -134,17 +135,7 @@ told_plain v address (read x e g t f ∷ ps) (o ∷ os) n h =
     ∙ plain_if (is_one (v o.come)) (is_one (v o.by_then)) n (v o.value).bits (v o.word).bits r.reads (all_made v (reads_of ps os)) h.0.comes (told_plain v address ps os (n + 1) h.1)
 
 pub reads_flagged : (v : Valuation) (address : ℕ) (ps : List ActData) (os : List Out) → AllOuts (IsFlagged v address) ps os → AreTold v (reads_of ps os)
-reads_flagged v address [] os h = tt
-reads_flagged v address (bind x e to ∷ ps) [] h = tt
-reads_flagged v address (read x e g t f ∷ ps) [] h = tt
-reads_flagged v address (branch e t f ∷ ps) [] h = tt
-reads_flagged v address (fault c ∷ ps) [] h = tt
-reads_flagged v address (done e p ∷ ps) [] h = tt
-reads_flagged v address (bind x e to ∷ ps) (o ∷ os) h = reads_flagged v address ps os h.1
-reads_flagged v address (branch e t f ∷ ps) (o ∷ os) h = reads_flagged v address ps os h.1
-reads_flagged v address (fault c ∷ ps) (o ∷ os) h = reads_flagged v address ps os h.1
-reads_flagged v address (done e p ∷ ps) (o ∷ os) h = reads_flagged v address ps os h.1
-reads_flagged v address (read x e g t f ∷ ps) (o ∷ os) h = (h.0.then_is, reads_flagged v address ps os h.1)
+reads_flagged v address ps os h = reads_have (IsFlagged v address) (λ (o : Out). v o.by_then ≡ flag (is_made v o)) (λ x e g t f o k. k.then_is) ps os h
 
 made_append : (v : Valuation) (xs ys : List Out) → all_made v (xs ++ ys) ≡ all_made v xs ++ all_made v ys
 made_append v [] ys = refl
