@@ -3,23 +3,21 @@ use Rattle.std.proofs.Common.{◌≡◌, ◌≢◌, ℕ, zero, suc, ◌+◌, ◌
 use Rattle.std.specs.Prelude.{replicate}
 use Rattle.std.specs.List.{list_any, range_with_len}
 use Rattle.std.proofs.lemmas.Nat.{pow_pos}
-use Rattle.std.proofs.lemmas.Bool.{cases_eq, cases_lt, cases_Bool, eqb-true, ltb-true, false≢true, or_cases, and_parts, lt-ltb, eq-eqb, or_left, or_right, and_from}
+use Rattle.std.proofs.lemmas.Bool.{cases_eq, cases_Bool, eqb-true, ltb-true, false≢true, or_cases, and_parts, lt-ltb, eq-eqb, or_left, or_right, and_from}
 use Rattle.std.proofs.lemmas.List.{get_or_default, get_or-map, take_more, length-replicate, get_or-replicate}
 use Rattle.std.proofs.lemmas.List.Elements.{filter_passes}
 use Rattle.std.proofs.Math.Seq.{take-length}
 use Rattle.dt_lemmas.proofs.Equalities.{two}
-use Rattle.dt_bits.specs.Bits.{width}
 use Rattle.dt_bits.specs.Ops.{arity_of, value_of}
 use Rattle.dt_bits.specs.declared.op.Op.{Op}
-use Rattle.dt_bits.specs.declared.value.Bv.{Bv}
 use Rattle.dt_bits.specs.declared.value.Width.{Width}
 use Rattle.dt_bits.proofs.Operators.{value_used}
 use Rattle.dt_terms.specs.declared.term.Term.{Term}
 use Rattle.dt_terms.specs.declared.term.Term.TheVariants.{Choice, Node}
-use Rattle.dt_terms.specs.Terms.{width_of_term, is_choice, term_at, bits_at, AreTerms, choices_of, choice_at}
+use Rattle.dt_terms.specs.Terms.{is_choice, term_at, bits_at, AreTerms, choices_of, choice_at}
 use Rattle.dt_terms.specs.Values.{IsAssignment, AreFit, bv_at, value_of_term, first_values, values_of}
 use Rattle.dt_terms.proofs.Choices.{choice_there, choice_stands}
-use Rattle.dt_terms.proofs.Placed.{IsPlaced, placed}
+use Rattle.dt_terms.proofs.Placed.{placed}
 use Rattle.dt_terms.proofs.Valued.{first_values-none, first_values-next, length-values_of, values_fit, value_is}
 use Rattle.dt_box.specs.Neighbours.{uses}
 use Rattle.dt_box.specs.Steps.{IsNodeTerm}

@@ -1,5 +1,5 @@
 -- The numbers of a trial follow the picks of the cells.
-use Rattle.std.proofs.Common.{◌≡◌, ◌≢◌, ℕ, ◌+◌, ◌^◌, ◌<◌, ◌≤◌, Bool, true, false, cond, ◌⊎◌, inl, inr, ⊎_elim, List, [], length, map, take, replicate, get_or, set, refl, sym, ap, ◌∙◌, subst, arith, length-set, get_or-set_same, get_or-set_other}
+use Rattle.std.proofs.Common.{◌≡◌, ◌≢◌, ℕ, ◌+◌, ◌^◌, ◌<◌, ◌≤◌, Bool, true, false, cond, ◌⊎◌, inl, inr, ⊎_elim, List, length, take, replicate, get_or, set, refl, sym, ap, ◌∙◌, subst, arith, length-set, get_or-set_same, get_or-set_other}
 use Rattle.std.specs.Prelude.{All, Result, Ok, Err, OnOk, unwrap_or}
 use Rattle.std.proofs.lemmas.Bool.{cases_Bool, cases_eq, cases_lt, false≢true}
 use Rattle.std.proofs.lemmas.List.{get_or_past, get_or-map, length-replicate, get_or-replicate}
@@ -16,8 +16,8 @@ use Rattle.dt_box.proofs.Trails.{same_between, kept_back, back_twice, back_whole
 use Rattle.dt_check.specs.Trials.{pick_at, picks}
 use Rattle.dt_check.specs.Marks.{HasNone}
 use Rattle.dt_check.specs.Noting.{AreChoices, AreNoted}
-use Rattle.dt_check.specs.Evaluating.{AreSeenTo, numbers_of}
-use Rattle.dt_check.specs.Trying.{ArePicked, IsTrying, IsTrial, IsNew}
+use Rattle.dt_check.specs.Evaluating.{numbers_of}
+use Rattle.dt_check.specs.Trying.{ArePicked, IsTrial, IsNew}
 use Rattle.dt_check.specs.declared.trial.Trial.{Trial}
 use Rattle.dt_check.proofs.Bound.{pick_held}
 use Rattle.dt_check.proofs.Evaluating.{map_same}

@@ -1,4 +1,4 @@
-use Rattle.std.proofs.Common.{◌≡◌, ◌<◌, ◌+◌, ℕ, List, Bool, length, sym, subst, arith}
+use Rattle.std.proofs.Common.{◌≡◌, ◌<◌, ◌+◌, List, Bool, length, sym, subst, arith}
 use Rattle.dt_bits.specs.Bits.{width}
 use Rattle.dt_box.specs.Trails.{terms_of}
 use Rattle.dt_check.specs.Noting.{AreNoted}

@@ -1,4 +1,4 @@
-use Rattle.std.proofs.Common.{◌≡◌, ℕ, ◌<◌, eqb, List, length, get_or, ap, sym, subst, ◌∙◌, arith}
+use Rattle.std.proofs.Common.{◌≡◌, ℕ, eqb, List, get_or, ap, subst, ◌∙◌}
 use Rattle.std.specs.List.{list_all}
 use Rattle.dt_terms.specs.Problem.{ProblemData}
 use Rattle.dt_terms.specs.Terms.{AreTerms}

@@ -1,4 +1,3 @@
-use Rattle.std.proofs.Common.{List, sym, subst}
 use Rattle.dt_check.proofs.Evaluating.{but_one, all_seen, choice_in_line}
 use Rattle.dt_check.proofs.evaluation.Evaluation.set_choice.Goals as goal
 

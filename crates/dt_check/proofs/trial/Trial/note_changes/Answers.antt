@@ -1,4 +1,4 @@
-use Rattle.std.proofs.Common.{◌<◌, ℕ, inr, length, subst}
+use Rattle.std.proofs.Common.{◌<◌, ℕ, inr, subst}
 use Rattle.std.specs.Prelude.{All}
 use Rattle.dt_box.specs.Trails.{terms_of}
 use Rattle.dt_check.specs.Noting.{AreNoted}

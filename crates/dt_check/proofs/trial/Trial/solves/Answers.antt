@@ -1,4 +1,4 @@
-use Rattle.std.proofs.Common.{◌≡◌, ◌≤◌, List, length, sym, ap, ◌∙◌, subst, arith}
+use Rattle.std.proofs.Common.{◌≡◌, List, length, sym, ap, ◌∙◌, subst, arith}
 use Rattle.dt_terms.specs.Values.{solves}
 use Rattle.dt_box.specs.Trails.{back}
 use Rattle.dt_box.proofs.Trails.{back_whole}

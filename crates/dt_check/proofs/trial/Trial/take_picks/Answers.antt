@@ -1,4 +1,4 @@
-use Rattle.std.proofs.Common.{◌≡◌, ◌<◌, ◌≤◌, ◌+◌, ℕ, Bool, false, List, length, get_or, ap, sym, ◌∙◌, subst, ⊎_elim, arith, rules}
+use Rattle.std.proofs.Common.{◌<◌, ◌≤◌, Bool, false, List, length, get_or, ap, sym, ◌∙◌, subst, ⊎_elim, arith, rules}
 use Rattle.std.proofs.lemmas.Bool.{cases_lt}
 use Rattle.dt_terms.specs.Problem.{ProblemData, most_terms}
 use Rattle.dt_check.specs.Marks.{HasNone}

@@ -1,4 +1,4 @@
-use Rattle.std.proofs.Common.{◌<◌, ◌+◌, ℕ, List, length, drop, refl, sym, ap, ◌∙◌}
+use Rattle.std.proofs.Common.{◌+◌, ℕ, List, drop, refl, sym, ap, ◌∙◌}
 use Rattle.dt_check.specs.Trials.{with_tries}
 use Rattle.dt_check.specs.Tests.{is_try}
 use Rattle.dt_check.specs.Evaluating.{numbers_of}

@@ -1,6 +1,5 @@
-use Rattle.std.proofs.Common.{◌≡◌, ◌<◌, ◌^◌, ℕ, Bool, List, Option, Some, None, length, get_or, set, true, sym, ap, ◌∙◌, subst, arith}
+use Rattle.std.proofs.Common.{◌≡◌, ◌<◌, ℕ, Bool, List, Some, None, length, get_or, set, sym, ap, ◌∙◌, subst, arith}
 use Rattle.std.proofs.lemmas.Option.{get_or_from_slice_get, slice_get-get_or}
-use Rattle.dt_bits.specs.Bits.{width}
 use Rattle.dt_domain.specs.Domain.{Holds}
 use Rattle.dt_terms.specs.Terms.{choices_of}
 use Rattle.dt_box.specs.Cells.{cell_at}
