@@ -6,6 +6,7 @@ pub mod Blocks
 pub mod CellValues
 pub mod Claimed
 pub mod Composed
+pub mod Dead
 pub mod Edges
 pub mod Ends
 pub mod Extends
