@@ -26,7 +26,7 @@ use Rattle.dt_encode.specs.Apart.{Sized, pages_at, tables_at}
 use Rattle.dt_encode.specs.Demands.{demand_forms}
 use Rattle.dt_encode.specs.Links.{link_forms}
 use Rattle.dt_encode.specs.Table.{choices, regs_at, inputs_at, words_at, access_of, first_state, rule_named, context_rules, access_rules, Built, with_forms, contexts_built, access_built, accesses_built, wish_forms, page_forms, keep_forms, list_forms, claim_forms, list_access}
-use Rattle.dt_encode.specs.Extras.{lives, dead_forms, allows, dead_of}
+use Rattle.dt_encode.specs.Extras.{lives, dead_forms, none_pass, sure_forms, allows, extras_of, all_extras}
 use Rattle.dt_encode.proofs.Accesses.{length_outs}
 use Rattle.dt_encode.proofs.Ready.{IsReady, access_left, reads_in, reads_in_nodes}
 use Rattle.dt_encode.proofs.FineTrees.{AreSized, tree_fine, tree_size}
@@ -249,12 +249,23 @@ dead_fine address word terms live (p ∷ ps) (o ∷ os) n e h = by_live (live n)
     by_live true g = g
     by_live false g = (term_fine terms o.away 1 h.0.away, g)
 
-pub extras_fine : (d : ModelData) (terms : List Term) (wishes : List AccessWish) (oss : List (List Out)) → AllByRecursion (AreOutsSized d terms) oss → AreFine terms (dead_of (steps d) wishes oss)
+sure_fine : (address word : ℕ) (terms : List Term) (live : ℕ → Bool) (all ps : List ActData) (os : List Out) (n : ℕ) → length os ≡ length ps → AllOuts (IsOutSized address word terms) ps os → AreFine terms (sure_forms live all os n)
+sure_fine address word terms live all ps [] n e h = tt
+sure_fine address word terms live all [] (o ∷ os) n e h = absurd (omega (arith, e))
+sure_fine address word terms live all (p ∷ ps) (o ∷ os) n e h = by_sure (none_pass live all 0 n) (sure_fine address word terms live all ps os (n + 1) (omega (arith, e)) h.1)
+  where
+    by_sure : (b : Bool) → AreFine terms (sure_forms live all os (n + 1)) → AreFine terms (cond b (term o.come ∷ sure_forms live all os (n + 1)) (sure_forms live all os (n + 1)))
+    by_sure true g = (term_fine terms o.come 1 h.0.come, g)
+    by_sure false g = g
+
+pub extras_fine : (d : ModelData) (terms : List Term) (wishes : List AccessWish) (oss : List (List Out)) → AllByRecursion (AreOutsSized d terms) oss → AreFine terms (all_extras (steps d) wishes oss)
 extras_fine d terms [] oss h = tt
 extras_fine d terms (a ∷ more) [] h = tt
 extras_fine d terms (a ∷ more) (os ∷ oss) h =
     let live = lives (allows a.demands) (steps d) 0 in
-    fine_append terms (dead_forms live os 0) (dead_of (steps d) more oss) (dead_fine d.address d.word terms live (steps d) os 0 h.0.count h.0.outs) (extras_fine d terms more oss h.1)
+    fine_append terms (extras_of live (steps d) os) (all_extras (steps d) more oss)
+    (fine_append terms (dead_forms live os 0) (sure_forms live (steps d) os 0) (dead_fine d.address d.word terms live (steps d) os 0 h.0.count h.0.outs) (sure_fine d.address d.word terms live (steps d) (steps d) os 0 h.0.count h.0.outs))
+    (extras_fine d terms more oss h.1)
 
 dead_size : (live : ℕ → Bool) (os : List Out) (n : ℕ) → forms_size (dead_forms live os n) ≡ 0
 dead_size live [] n = refl
@@ -264,13 +275,23 @@ dead_size live (o ∷ os) n = by_live (live n) (dead_size live os (n + 1))
     by_live true g = g
     by_live false g = omega (arith, g)
 
+sure_size : (live : ℕ → Bool) (ps : List ActData) (os : List Out) (n : ℕ) → forms_size (sure_forms live ps os n) ≡ 0
+sure_size live ps [] n = refl
+sure_size live ps (o ∷ os) n = by_sure (none_pass live ps 0 n) (sure_size live ps os (n + 1))
+  where
+    by_sure : (b : Bool) → forms_size (sure_forms live ps os (n + 1)) ≡ 0 → forms_size (cond b (term o.come ∷ sure_forms live ps os (n + 1)) (sure_forms live ps os (n + 1))) ≡ 0
+    by_sure true g = omega (arith, g)
+    by_sure false g = g
+
 -- they take no terms
-pub extras_size : (ps : List ActData) (wishes : List AccessWish) (oss : List (List Out)) → forms_size (dead_of ps wishes oss) ≡ 0
+pub extras_size : (ps : List ActData) (wishes : List AccessWish) (oss : List (List Out)) → forms_size (all_extras ps wishes oss) ≡ 0
 extras_size ps [] oss = refl
 extras_size ps (a ∷ more) [] = refl
 extras_size ps (a ∷ more) (os ∷ oss) =
     let live = lives (allows a.demands) ps 0 in
-    let s = size_append (dead_forms live os 0) (dead_of ps more oss) in
+    let s = size_append (extras_of live ps os) (all_extras ps more oss) in
+    let t = size_append (dead_forms live os 0) (sure_forms live ps os 0) in
     let x = dead_size live os 0 in
+    let z = sure_size live ps os 0 in
     let y = extras_size ps more oss in
-    omega (arith, s, x, y)
+    omega (arith, s, t, x, y, z)

@@ -40,6 +40,7 @@ pub mod Satisfying
 pub mod Sides
 pub mod Solving
 pub mod Stand
+pub mod Sure
 pub mod TableMemory
 pub mod Theorem
 pub mod Told
