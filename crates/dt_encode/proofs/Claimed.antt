@@ -209,10 +209,14 @@ mades_told v d r m (a ∷ more) (os ∷ oss) k c h =
     ap (λ (q : Made). q ∷ map (made_of d (seen v d r m)) (accesses_told v d r (k + 1) more)) (made_told v d r m k a os c.0 h.0)
     ∙ ap (λ (l : List Made). told_made v d r k a os ∷ l) (mades_told v d r m more oss (k + 1) c.1 h.1)
 
+-- the claims of demands over the accesses that are told
+pub demand_claims_told : (v : Valuation) (d : ModelData) (r : Requests) (m : Memory) (oss : List (List Out)) → HaveContexts r r.accesses → AllTold v d r m 0 r.accesses oss → demand_claims d r (seen v d r m) ≡ wish_claims (told_mades v d r 0 r.accesses oss) r.accesses
+demand_claims_told v d r m oss c all = ap (λ (l : List Made). wish_claims l r.accesses) (mades_told v d r m r.accesses oss 0 c all)
+
 -- the forms of all demands tell the claims of the demands
 pub demands_tell : (v : Valuation) (d : ModelData) (r : Requests) (m : Memory) (oss : List (List Out)) → HaveContexts r r.accesses → HaveDemands d r.accesses → AllNodes v d oss → AllTold v d r m 0 r.accesses oss
     → TellAll v (wish_forms d r 0 r.accesses oss) (demand_claims d r (seen v d r m))
 demands_tell v d r m oss c o nodes all =
     tell_as v (wish_forms d r 0 r.accesses oss) (wish_claims (told_mades v d r 0 r.accesses oss) r.accesses) (demand_claims d r (seen v d r m))
-    (ap (λ (l : List Made). wish_claims l r.accesses) (sym (mades_told v d r m r.accesses oss 0 c all)))
+    (sym (demand_claims_told v d r m oss c all))
     (wishes_tell v d r r.accesses oss 0 nodes o)

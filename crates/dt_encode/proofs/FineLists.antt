@@ -4,7 +4,7 @@ use Rattle.std.specs.List.{flat_map, AllByRecursion}
 use Rattle.std.proofs.lemmas.List.{length-map}
 use Rattle.dt_lemmas.proofs.Lists.{AllByRecursion-append}
 use Rattle.dt_bits.specs.Bits.{IsWidth}
-use Rattle.dt_model.specs.ModelData.{ModelData, Tree}
+use Rattle.dt_model.specs.ModelData.{ModelData, ActData, Tree}
 use Rattle.dt_model.specs.Faults.{steps, context_scope, access_scope}
 use Rattle.dt_model.specs.Widths.{Scope, HasArities, tree_width, width_at, operators}
 use Rattle.dt_request.specs.declared.list.AccessWish.{AccessWish}
@@ -15,10 +15,10 @@ use Rattle.dt_request.specs.Lists.{IsDemand, IsLink}
 use Rattle.dt_terms.specs.declared.term.Term.{Term}
 use Rattle.dt_terms.specs.Terms.{AreTerms}
 use Rattle.dt_terms.specs.Problem.{IsTest}
-use Rattle.dt_forms.specs.Forms.{Form, all_required}
+use Rattle.dt_forms.specs.Forms.{Form, all_required, term}
 use Rattle.dt_forms.specs.Sizes.{Grows}
 use Rattle.dt_forms.proofs.Sizes.{grows_none, grows_on, grows_within}
-use Rattle.dt_forms.proofs.Fine.{IsSized, AreFine, forms_size, all_stand, tests_on, fine_append, mul_more}
+use Rattle.dt_forms.proofs.Fine.{IsSized, AreFine, forms_size, all_stand, tests_on, fine_append, mul_more, term_fine, size_append}
 use Rattle.dt_encode.specs.Expressions.{Named, form_of}
 use Rattle.dt_encode.specs.Passing.{Out, walk_placed}
 use Rattle.dt_encode.specs.Claims.{pair_forms, reads_of}
@@ -26,12 +26,14 @@ use Rattle.dt_encode.specs.Apart.{Sized, pages_at, tables_at}
 use Rattle.dt_encode.specs.Demands.{demand_forms}
 use Rattle.dt_encode.specs.Links.{link_forms}
 use Rattle.dt_encode.specs.Table.{choices, regs_at, inputs_at, words_at, access_of, first_state, rule_named, context_rules, access_rules, Built, with_forms, contexts_built, access_built, accesses_built, wish_forms, page_forms, keep_forms, list_forms, claim_forms, list_access}
+use Rattle.dt_encode.specs.Extras.{lives, dead_forms, none_pass, sure_forms, allows, extras_of, all_extras}
 use Rattle.dt_encode.proofs.Accesses.{length_outs}
 use Rattle.dt_encode.proofs.Ready.{IsReady, access_left, reads_in, reads_in_nodes}
 use Rattle.dt_encode.proofs.FineTrees.{AreSized, tree_fine, tree_size}
 use Rattle.dt_encode.proofs.FineChoices.{AreChosen, chosen_on}
-use Rattle.dt_encode.proofs.FineWalks.{IsPlain, IsSound, outs_on, steps_size, walk_sound}
+use Rattle.dt_encode.proofs.FineWalks.{IsPlain, IsSound, outs_on, steps_size, walk_sound, IsOutSized}
 use Rattle.dt_encode.proofs.FineClaims.{AreBits, AreWide, AreNamesSized, AreOutsSized, pages_sized, tables_sized, reads_sized, aparts_fine, pairs_fine, keeps_fine, demands_fine, links_fine, IsNodeSized, IsReadSized}
+use Rattle.dt_encode.proofs.Flagged.{AllOuts}
 
 -- ---- rules
 
@@ -235,3 +237,61 @@ claims_fine d r terms oss model asked h o n =
     (fine_append terms links (page_forms d r oss ++ keep_forms d r oss) (links_fine d a terms oss r.links refl bits o (subst (λ (m : ℕ). AllByRecursion (IsLink d m) r.links) (sym n) asked.links))
     (fine_append terms (page_forms d r oss) (keep_forms d r oss) (aparts_fine d.word terms a pages tables bits (flat_pages d terms oss o) (flat_tables d terms oss o))
     (keeps_fine d.word terms a pages tables r.kept bits (flat_pages d terms oss o) (flat_tables d terms oss o) asked.kept))))
+
+-- ---- further forms
+
+dead_fine : (address word : ℕ) (terms : List Term) (live : ℕ → Bool) (ps : List ActData) (os : List Out) (n : ℕ) → length os ≡ length ps → AllOuts (IsOutSized address word terms) ps os → AreFine terms (dead_forms live os n)
+dead_fine address word terms live ps [] n e h = tt
+dead_fine address word terms live [] (o ∷ os) n e h = absurd (omega (arith, e))
+dead_fine address word terms live (p ∷ ps) (o ∷ os) n e h = by_live (live n) (dead_fine address word terms live ps os (n + 1) (omega (arith, e)) h.1)
+  where
+    by_live : (b : Bool) → AreFine terms (dead_forms live os (n + 1)) → AreFine terms (cond b (dead_forms live os (n + 1)) (term o.away ∷ dead_forms live os (n + 1)))
+    by_live true g = g
+    by_live false g = (term_fine terms o.away 1 h.0.away, g)
+
+sure_fine : (address word : ℕ) (terms : List Term) (live : ℕ → Bool) (all ps : List ActData) (os : List Out) (n : ℕ) → length os ≡ length ps → AllOuts (IsOutSized address word terms) ps os → AreFine terms (sure_forms live all os n)
+sure_fine address word terms live all ps [] n e h = tt
+sure_fine address word terms live all [] (o ∷ os) n e h = absurd (omega (arith, e))
+sure_fine address word terms live all (p ∷ ps) (o ∷ os) n e h = by_sure (none_pass live all 0 n) (sure_fine address word terms live all ps os (n + 1) (omega (arith, e)) h.1)
+  where
+    by_sure : (b : Bool) → AreFine terms (sure_forms live all os (n + 1)) → AreFine terms (cond b (term o.come ∷ sure_forms live all os (n + 1)) (sure_forms live all os (n + 1)))
+    by_sure true g = (term_fine terms o.come 1 h.0.come, g)
+    by_sure false g = g
+
+pub extras_fine : (d : ModelData) (terms : List Term) (wishes : List AccessWish) (oss : List (List Out)) → AllByRecursion (AreOutsSized d terms) oss → AreFine terms (all_extras (steps d) wishes oss)
+extras_fine d terms [] oss h = tt
+extras_fine d terms (a ∷ more) [] h = tt
+extras_fine d terms (a ∷ more) (os ∷ oss) h =
+    let live = lives (allows a.demands) (steps d) 0 in
+    fine_append terms (extras_of live (steps d) os) (all_extras (steps d) more oss)
+    (fine_append terms (dead_forms live os 0) (sure_forms live (steps d) os 0) (dead_fine d.address d.word terms live (steps d) os 0 h.0.count h.0.outs) (sure_fine d.address d.word terms live (steps d) (steps d) os 0 h.0.count h.0.outs))
+    (extras_fine d terms more oss h.1)
+
+dead_size : (live : ℕ → Bool) (os : List Out) (n : ℕ) → forms_size (dead_forms live os n) ≡ 0
+dead_size live [] n = refl
+dead_size live (o ∷ os) n = by_live (live n) (dead_size live os (n + 1))
+  where
+    by_live : (b : Bool) → forms_size (dead_forms live os (n + 1)) ≡ 0 → forms_size (cond b (dead_forms live os (n + 1)) (term o.away ∷ dead_forms live os (n + 1))) ≡ 0
+    by_live true g = g
+    by_live false g = omega (arith, g)
+
+sure_size : (live : ℕ → Bool) (ps : List ActData) (os : List Out) (n : ℕ) → forms_size (sure_forms live ps os n) ≡ 0
+sure_size live ps [] n = refl
+sure_size live ps (o ∷ os) n = by_sure (none_pass live ps 0 n) (sure_size live ps os (n + 1))
+  where
+    by_sure : (b : Bool) → forms_size (sure_forms live ps os (n + 1)) ≡ 0 → forms_size (cond b (term o.come ∷ sure_forms live ps os (n + 1)) (sure_forms live ps os (n + 1))) ≡ 0
+    by_sure true g = omega (arith, g)
+    by_sure false g = g
+
+-- they take no terms
+pub extras_size : (ps : List ActData) (wishes : List AccessWish) (oss : List (List Out)) → forms_size (all_extras ps wishes oss) ≡ 0
+extras_size ps [] oss = refl
+extras_size ps (a ∷ more) [] = refl
+extras_size ps (a ∷ more) (os ∷ oss) =
+    let live = lives (allows a.demands) ps 0 in
+    let s = size_append (extras_of live ps os) (all_extras ps more oss) in
+    let t = size_append (dead_forms live os 0) (sure_forms live ps os 0) in
+    let x = dead_size live os 0 in
+    let z = sure_size live ps os 0 in
+    let y = extras_size ps more oss in
+    omega (arith, s, t, x, y, z)

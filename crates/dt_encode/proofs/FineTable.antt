@@ -1,12 +1,11 @@
 -- The problem of a list of an accepted model is a problem: its terms are well formed, what is required is one bit wide, and a list within the limits has room.
 use Rattle.std.proofs.Common.{◌≡◌, ℕ, ◌+◌, ◌*◌, ◌<◌, ◌≤◌, Bool, true, false, cond, eqb, List, [], ◌∷◌, ◌++◌, length, Some, sym, ap, subst, arith}
 use Rattle.std.specs.List.{AllByRecursion}
-use Rattle.std.proofs.lemmas.List.{append-nil}
 use Rattle.std.proofs.lemmas.List.Elements.{recursion_from_All}
 use Rattle.dt_lemmas.proofs.Lists.{each_has}
 use Rattle.dt_bits.specs.Bits.{IsWidth}
 use Rattle.dt_model.specs.ModelData.{ModelData, Tree}
-use Rattle.dt_model.specs.Faults.{IsAccepted, HaveArities, context_scope, access_scope}
+use Rattle.dt_model.specs.Faults.{IsAccepted, HaveArities, steps, context_scope, access_scope}
 use Rattle.dt_model.specs.Widths.{HasArities, tree_width}
 use Rattle.dt_model.proofs.Accepting.{reg_widths, input_widths, var_widths, accepted_word, accepted_address, context_rule_width, access_rule_width, context_arities, access_arities}
 use Rattle.dt_request.specs.declared.list.AccessWish.{AccessWish}
@@ -14,9 +13,8 @@ use Rattle.dt_request.specs.declared.list.Requests.{Requests}
 use Rattle.dt_request.specs.Lists.{IsList, IsWish, IsDemand, IsLink, IsKept}
 use Rattle.dt_terms.specs.Terms.{AreTerms}
 use Rattle.dt_terms.specs.Problem.{IsTest}
-use Rattle.dt_forms.specs.Forms.{Form}
 use Rattle.dt_forms.proofs.Sizes.{grows_on}
-use Rattle.dt_forms.proofs.Fine.{AreFine, forms_size}
+use Rattle.dt_forms.proofs.Fine.{forms_size, size_append, fine_append}
 use Rattle.dt_encode.specs.Passing.{Out}
 use Rattle.dt_encode.specs.Table.{align_of, access_of, with_forms, contexts_built, start, built, claim_forms, extra_forms, table}
 use Rattle.dt_encode.proofs.Accepted.{ready_from}
@@ -25,7 +23,7 @@ use Rattle.dt_encode.proofs.Ranges.{within_all}
 use Rattle.dt_encode.proofs.FineChoices.{start_chosen, start_terms}
 use Rattle.dt_encode.proofs.FineWalks.{IsPlain}
 use Rattle.dt_encode.proofs.FineClaims.{AreOutsSized, names_wide}
-use Rattle.dt_encode.proofs.FineLists.{rules_size, IsModel, IsAsked, IsBuilt, access_size, contexts_onward, accesses_onward, forms_onward, claims_fine}
+use Rattle.dt_encode.proofs.FineLists.{rules_size, IsModel, IsAsked, IsBuilt, access_size, contexts_onward, accesses_onward, forms_onward, claims_fine, extras_fine, extras_size}
 
 -- ---- what an accepted model gives
 
@@ -109,10 +107,9 @@ table_whole d r a h list =
     let zero_outs : length c.outs ≡ 0 = ap length (sym none) in
     let n : length b.outs ≡ length r.accesses = (let e = y.count in omega (arith, e, zero_outs)) in
     let claims = claim_forms d r b.outs ++ extra_forms d r b.outs in
-    let same : claim_forms d r b.outs ≡ claims = sym (append-nil (claim_forms d r b.outs)) in
-    let f = claims_fine d r b.terms b.outs model asked y.onward.built_is.chosen y.outs n in
-    let size : forms_size claims ≤ forms_size (claim_forms d r b.outs) = (let e = ap forms_size same in omega (arith, e)) in
-    let z = forms_onward d r b claims (forms_size (claim_forms d r b.outs)) y.onward.built_is (subst (λ (l : List Form). AreFine b.terms l) same f) size in
+    let f = fine_append b.terms (claim_forms d r b.outs) (extra_forms d r b.outs) (claims_fine d r b.terms b.outs model asked y.onward.built_is.chosen y.outs n) (extras_fine d b.terms r.accesses b.outs y.outs) in
+    let size : forms_size claims ≤ forms_size (claim_forms d r b.outs) = (let e = size_append (claim_forms d r b.outs) (extra_forms d r b.outs) in let x = extras_size (steps d) r.accesses b.outs in omega (arith, e, x)) in
+    let z = forms_onward d r b claims (forms_size (claim_forms d r b.outs)) y.onward.built_is f size in
     let g = grows_on s.terms b.terms (with_forms b claims).terms (base_size d r) (forms_size (claim_forms d r b.outs)) (grows_on s.terms c.terms b.terms (length r.contexts * rules_size d.legal_context) (length r.accesses * access_size d) x.grows y.onward.grows) z.grows in
     record {
       terms_are = z.built_is.terms_are;

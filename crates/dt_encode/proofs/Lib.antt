@@ -6,6 +6,7 @@ pub mod Blocks
 pub mod CellValues
 pub mod Claimed
 pub mod Composed
+pub mod Dead
 pub mod Edges
 pub mod Ends
 pub mod Extends
@@ -39,6 +40,7 @@ pub mod Satisfying
 pub mod Sides
 pub mod Solving
 pub mod Stand
+pub mod Sure
 pub mod TableMemory
 pub mod Theorem
 pub mod Told

@@ -22,6 +22,7 @@ use Rattle.dt_encode.specs.Demands.{result_form, quantity_forms, is_masked_form,
 use Rattle.dt_encode.specs.Links.{outs_of, side_at, one_block, one_page, pages_forms, link_forms}
 use Rattle.dt_encode.specs.Table.{access_of, list_access, wish_forms, page_forms, keep_forms, list_forms, claim_forms, extra_forms}
 use Rattle.dt_encode.proofs.Kept.{kept_have}
+use Rattle.dt_encode.proofs.Dead.{dead_have}
 
 -- ---- lists of forms
 
@@ -129,9 +130,9 @@ claims_form d r oss =
     let pages = flat_map (pages_at (steps d)) oss in
     let tables = flat_map (tables_at (steps d)) oss in
     let links = flat_map (link_forms d a oss) r.links in
-    AllByRecursion-append HasForm (claim_forms d r oss) [] (
+    AllByRecursion-append HasForm (claim_forms d r oss) (extra_forms d r oss) (
     AllByRecursion-append HasForm (pair_forms (flat_map (reads_of (steps d)) oss)) (list_forms d r oss) (pairs_form (flat_map (reads_of (steps d)) oss)) (
     AllByRecursion-append HasForm (wish_forms d r 0 r.accesses oss) (links ++ (page_forms d r oss ++ keep_forms d r oss)) (wishes_form d r r.accesses oss 0) (
     AllByRecursion-append HasForm links (page_forms d r oss ++ keep_forms d r oss) (all_forms (link_forms d a oss) (link_form d a oss) r.links) (
     AllByRecursion-append HasForm (page_forms d r oss) (keep_forms d r oss) (aparts_form a pages tables) (kept_have a pages tables r.kept)
-    )))) tt
+    )))) (dead_have (steps d) r.accesses oss)

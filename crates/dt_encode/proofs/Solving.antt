@@ -37,6 +37,7 @@ use Rattle.dt_encode.proofs.ListForms.{claims_form}
 use Rattle.dt_encode.proofs.Satisfying.{given_from, list_tells}
 use Rattle.dt_encode.proofs.Rising.{walk_rising, rising_remembers, remembers_agree, rising_said}
 use Rattle.dt_encode.proofs.Numbers.{HaveBits, bits_split, contexts_back, contexts_total, HaveWords, accesses_back, words_back}
+use Rattle.dt_encode.proofs.Dead.{extras_hold}
 
 one_said : (v : Valuation) (d : ModelData) (r : Requests) (k : ℕ) (a : AccessWish) (m : Memory) (os : List Out) → AtAccess v d r k a m → IsPlaced v d r k a os
     → HaveBits v (words_at d r k) (words_for (steps d) (run_of d (seen v d r m) (access_told v d r k a)).reads 0)
@@ -89,7 +90,7 @@ seen_solved v d r m ready list range h fits words holds =
       contexts = claimed_contexts v d r (length r.contexts) 0 ready g.set (omega arith) p1.0;
       accesses = claimed_accesses v d r m r.accesses 0 ready g.set g.contexts (omega arith) p1.1;
       claims = AllByRecursion-append (λ (f : Form). is_one (form_value v f) ≡ true) (pair_forms reads) (list_forms d r oss) (agree_hold v reads (all_told v d oss g.nodes) agree) ((list_tells v d r m list g all).held asked);
-    }) tt
+    }) (extras_hold v d r m oss ready g.contexts g.nodes all p2.1)
 
 pub image_solved : (v : Valuation) (d : ModelData) (r : Requests) (i : Image) → IsReady d → IsList d r → ((t : ℕ) → (v t).bits < 2 ^ (v t).width.0) → IsLawful v (table d r).terms → HaveBits v 0 (numbers_of d i) → Satisfies d r i → AreOnes v (table d r).required
 image_solved v d r i ready list range h bits sat =

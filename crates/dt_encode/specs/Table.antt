@@ -23,6 +23,7 @@ use Rattle.dt_encode.specs.Demands.{demand_forms}
 use Rattle.dt_encode.specs.Links.{link_forms}
 use Rattle.dt_encode.specs.Apart.{pages_at, tables_at, apart_forms}
 use Rattle.dt_encode.specs.Kept.{kept_forms}
+use Rattle.dt_encode.specs.Extras.{all_extras}
 
 -- ---- choices: for each context its registers, and then for each access its inputs and a word for each read node
 
@@ -134,7 +135,7 @@ claim_forms d r outs = pair_forms (flat_map (reads_of (steps d)) outs) ++ list_f
 
 -- further forms that hold of each image that satisfies
 abbrev pub extra_forms : ModelData → Requests → List (List Out) → List Form
-extra_forms d r outs = []
+extra_forms d r outs = all_extras (steps d) r.accesses outs
 
 abbrev pub bit_node : ℕ → Term
 bit_node n = node_of [] (Const (record { width = width 1; bits = n })) 0 0 0
