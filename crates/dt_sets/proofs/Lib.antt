@@ -3,3 +3,4 @@ pub mod Loops
 pub mod Gathers
 pub mod Alike
 pub mod Choosing
+pub mod Triples

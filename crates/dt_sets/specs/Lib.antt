@@ -5,3 +5,6 @@ pub mod Forward
 pub mod Backward
 pub mod Ops
 pub mod Laws
+pub mod Triple
+pub mod TripleOps
+pub mod TripleLaws
