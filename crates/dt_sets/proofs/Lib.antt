@@ -1,0 +1,5 @@
+pub mod Writes
+pub mod Loops
+pub mod Gathers
+pub mod Alike
+pub mod Choosing
