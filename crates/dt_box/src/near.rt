@@ -1,24 +1,46 @@
-ghost use Rattle.std.specs.Prelude.{◌≡◌, ◌<◌, ◌↔◌, All, length, IsTrue, MatchOption};
+ghost use Rattle.std.specs.Prelude.{◌≡◌, ◌<◌, ◌↔◌, All, length, IsTrue, IfSome, MatchOption};
 ghost use Rattle.dt_terms.specs.Terms.{AreTerms};
 ghost use Rattle.dt_box.specs.Cells.{AreCells};
-ghost use Rattle.dt_box.specs.Stillness.{IsSettled, TellsNew};
+ghost use Rattle.dt_box.specs.Stillness.{IsSettled, IsStillAt, TellsNew};
 ghost use Rattle.dt_box.specs.Trails.{undone};
-ghost use Rattle.dt_box.specs.Watching.{watches_of, IsStillNear};
+ghost use Rattle.dt_box.specs.Watching.{watches_of, AreStillNear};
 
 use crate::sweep::step_from;
 use crate::{Step, Watches};
 use dt_domain::Domain;
 use dt_terms::Term;
 
+// A step from a term's node that tells something new, where the node isn't one of which it is known that
+// its steps don't.
+fn own_step<D: Domain>(terms: &[Term], cells: &[D], term: u32, still: Option<u32>) -> Option<Step>
+    requires terms { AreTerms terms.now }
+    requires cells { AreCells D.ops terms.now cells.now }
+    requires term { term < length terms.now }
+    requires still { IfSome still (λ node. IsStillAt D.ops terms.now node cells.now) }
+    ensures { MatchOption result (IsStillAt D.ops terms.now term cells.now) (λ step. TellsNew D.ops terms.now step cells.now) }
+{
+    match still {
+        Some(node) if node == term => None,
+        _ => step_from(terms, cells, term),
+    }
+}
+
 // A step near a term, from it or from a node that uses it, that tells something new.
-fn near_step<D: Domain>(terms: &[Term], watches: &Watches, cells: &[D], term: u32) -> Option<Step>
+fn near_step<D: Domain>(
+    terms: &[Term],
+    watches: &Watches,
+    cells: &[D],
+    term: u32,
+    still: Option<u32>,
+) -> Option<Step>
     requires terms { AreTerms terms.now }
     requires watches { watches.now ≡ watches_of terms.now }
     requires cells { AreCells D.ops terms.now cells.now }
     requires term { term < length terms.now }
-    ensures { MatchOption result (IsStillNear D.ops terms.now cells.now term) (λ step. TellsNew D.ops terms.now step cells.now) }
+    requires still { IfSome still (λ node. IsStillAt D.ops terms.now node cells.now) }
+    ensures { MatchOption result (AreStillNear D.ops terms.now cells.now term) (λ step. TellsNew D.ops terms.now step cells.now) }
 {
-    match step_from(terms, cells, term) {
+    match own_step(terms, cells, term, still) {
         Some(step) => return Some(step),
         None => {}
     }
@@ -29,6 +51,16 @@ fn near_step<D: Domain>(terms: &[Term], watches: &Watches, cells: &[D], term: u3
         }
     }
     None
+}
+
+// The last node that uses a term near which no step tells something new: no step from it does.
+fn last_user<D: Domain>(terms: &[Term], watches: &Watches, cells: &[D], term: u32) -> Option<u32>
+    requires watches { watches.now ≡ watches_of terms.now }
+    requires term { term < length terms.now }
+    requires near { AreStillNear D.ops terms.now cells.now term }
+    ensures { IfSome result (λ node. IsStillAt D.ops terms.now node cells.now) }
+{
+    watches.users(term).last().copied()
 }
 
 // Whether cells are settled that were before these changes.
@@ -45,14 +77,16 @@ pub(crate) fn are_settled_after<D: Domain>(
     requires settled { IsSettled D.ops terms.now (undone cells.now changes.now) }
     ensures { IsTrue result ↔ IsSettled D.ops terms.now cells.now }
 {
+    // a node whose steps tell nothing new: in a chain it is the next one that changed
+    let mut still: Option<u32> = None;
     for change in changes {
         let term = change.0;
         if cells[term as usize].is_empty() {
             return false;
         }
-        match near_step(terms, watches, cells, term) {
+        match near_step(terms, watches, cells, term, still) {
             Some(_) => return false,
-            None => {}
+            None => still = last_user(terms, watches, cells, term),
         }
     }
     true

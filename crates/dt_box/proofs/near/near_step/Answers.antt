@@ -12,8 +12,8 @@ users-user-items-requires g c =
     let e = ap (λ (xs : List (List ℕ)). length xs) c.requires.watches in
     omega (arith, c.requires.term)
 
-pub step_from-requires-in-loop-user-clause-term : goal.step_from-requires-in-loop-user-clause-term
-step_from-requires-in-loop-user-clause-term g c =
+pub step_from-requires-clause-term : goal.step_from-requires-clause-term
+step_from-requires-clause-term g c =
     let terms = c.args.terms.now in
     let e = c.users-user-items.ensures ∙ ap (λ (xs : List (List ℕ)). get_or xs c.args.term []) c.requires.watches ∙ users_at_term terms c.args.term c.requires.term in
     subst (λ (ns : List ℕ). get_or ns c.loop-user.user-index 0 < length terms) (sym e)
@@ -30,5 +30,6 @@ pub returns : goal.returns
 returns g c =
     let terms = c.args.terms.now in
     let e = c.users-user-items.ensures ∙ ap (λ (xs : List (List ℕ)). get_or xs c.args.term []) c.requires.watches ∙ users_at_term terms c.args.term c.requires.term in
-    still_near g.row.D.Denot g.D.Domain.ops terms c.args.cells.now c.args.term c.in-None.ensures
-    (λ k l. c.loop-user.invariant k (omega (arith, ap (λ (ns : List ℕ). length ns) e, c.loop-user-test.false)))
+    let users : (k : ℕ) → k < length (users_of terms c.args.term) → IsStillAt g.D.Domain.ops terms (get_or (users_of terms c.args.term) k 0) c.args.cells.now
+    = λ k l. c.loop-user.invariant k (omega (arith, ap (λ (ns : List ℕ). length ns) e, c.loop-user-test.false)) in
+    record { near = still_near g.row.D.Denot g.D.Domain.ops terms c.args.cells.now c.args.term c.in-None.ensures users; users = users }
