@@ -15,7 +15,7 @@ use Rattle.dt_terms.specs.declared.term.Term.{Term}
 use Rattle.dt_terms.specs.Terms.{term_at, bits_at, AreTerms}
 use Rattle.dt_box.specs.declared.step.Step.{Step}
 use Rattle.dt_box.specs.declared.step.Step.TheVariants as steps
-use Rattle.dt_box.specs.Cells.{cell_at, AreCells}
+use Rattle.dt_box.specs.Cells.{cell_at, AreCells, HoldAssignment}
 use Rattle.dt_box.specs.Changes.{knows_more}
 use Rattle.dt_box.specs.Steps.{IsStep, target, narrowed, after_step}
 use Rattle.dt_box.specs.Stillness.{HasNoEmpty, IsSettled, IsStill, IsStillAt, tells, origin}
@@ -24,12 +24,14 @@ use Rattle.dt_box.specs.Neighbours.{uses, is_near}
 use Rattle.dt_box.specs.Watching.{users_of, watches_of, Covers}
 use Rattle.dt_box.proofs.Steps.{step_cells, step_narrows, step_alike, at_set}
 use Rattle.dt_box.proofs.Knowledge.{step_keeps}
+use Rattle.dt_box.proofs.Assignments.{step_holds, held_not_empty}
 use Rattle.dt_box.proofs.Trails.{kept_none, kept_more}
 use Rattle.dt_box.proofs.Watching.{far_tells, users_at_term}
 use Rattle.dt_log.specs.declared.line.Line.{Line}
 use Rattle.dt_box.specs.Unknown.{unknown_of}
 use Rattle.dt_box.proofs.Unknown.{Keeps, unknown_le, unknown_lt}
-use Rattle.dt_propagate.specs.Settling.{step_line, Leads, IsLogged, IsProgress}
+use Rattle.dt_propagate.specs.declared.settling.Settled.TheVariants.{Empty}
+use Rattle.dt_propagate.specs.Settling.{step_line, Leads, IsLogged, IsProgress, KeepsHeld, HoldsNone}
 
 module _ (D : Type 0) (ops : DomainOps D) (terms : List Term) where
   leads_step : (lines : List Line) (old mid : List D) (s : Step) → Leads ops terms lines old mid → IsStep terms s → Leads ops terms (lines ++ step_line s ∷ []) old (after_step ops terms s mid)
@@ -134,3 +136,21 @@ module _ (D : Type 0) (ops : DomainOps D) (terms : List Term) where
 
     pub target_in : (s : Step) (cells : List D) → AreCells ops terms cells → IsStep terms s → target terms s < length terms
     target_in s cells h i = (step_narrows D ops laws terms right s cells h i).within
+
+    -- what was held before steps is held after them
+    pub leads_hold : (lines : List Line) (old new : List D) (numbers : List ℕ) → AreCells ops terms old → Leads ops terms lines old new → HoldAssignment ops terms old numbers → HoldAssignment ops terms new numbers
+    unfolding Leads
+    leads_hold [] old new numbers h l a = subst (λ c. HoldAssignment ops terms c numbers) l a
+    leads_hold (line ∷ lines) old new numbers h l a =
+        leads_hold lines (after_step ops terms l.0 old) new numbers (step_cells D ops laws terms right l.0 old h l.2) l.3 (step_holds D ops laws terms right numbers l.0 old h l.2 a)
+
+    -- so with what was logged
+    pub keeps_held : (old : List D) (s : List (ℕ × D)) (lines : List Line) (new : List D) (t : List (ℕ × D)) (more : List Line) → AreCells ops terms old → IsProgress ops terms old s lines new t more
+        → KeepsHeld ops terms old new
+    keeps_held old s lines new t more h g numbers a = leads_hold g.logged.added old new numbers h g.logged.leads a
+
+    -- and where a cell is empty then, nothing was held
+    pub holds_none : (old : List D) (s : List (ℕ × D)) (lines : List Line) (new : List D) (u : List (ℕ × D)) (more : List Line) (t : ℕ) → AreCells ops terms old → IsProgress ops terms old s lines new u more
+        → t < length terms → ops.is_empty (cell_at ops new t) ≡ true → HoldsNone ops terms (Empty t) old
+    holds_none old s lines new u more t h g l e numbers a =
+        true≢false (sym e ∙ held_not_empty D ops laws terms right numbers t new g.cells l (keeps_held old s lines new u more h g numbers a))

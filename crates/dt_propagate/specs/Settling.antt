@@ -5,7 +5,7 @@ use Rattle.dt_domain.specs.Domain.{DomainOps}
 use Rattle.dt_terms.specs.declared.term.Term.{Term}
 use Rattle.dt_box.specs.declared.step.Step.{Step}
 use Rattle.dt_box.specs.declared.step.Step.TheVariants as steps
-use Rattle.dt_box.specs.Cells.{cell_at, AreCells}
+use Rattle.dt_box.specs.Cells.{cell_at, AreCells, HoldAssignment}
 use Rattle.dt_box.specs.Steps.{IsStep, after_step}
 use Rattle.dt_box.specs.Stillness.{HasNoEmpty, tells, origin}
 use Rattle.dt_box.specs.Trails.{IsKept}
@@ -42,3 +42,12 @@ pub record IsProgress {D : Type 0} (ops : DomainOps D) (terms : List Term) (old 
 abbrev pub IsEnd : {D : Type 0} → DomainOps D → List Term → Settled → List D → Type 0 → Type 0
 IsEnd ops terms Quiet cells P = HasNoEmpty ops cells × P
 IsEnd ops terms (Empty t) cells P = (t < length terms) × (ops.is_empty (cell_at ops cells t) ≡ true)
+
+-- what the old cells hold of assignments, the new ones hold
+abbrev pub KeepsHeld : {D : Type 0} → DomainOps D → List Term → List D → List D → Type 0
+KeepsHeld ops terms old new = (numbers : List ℕ) → HoldAssignment ops terms old numbers → HoldAssignment ops terms new numbers
+
+-- where settling ended at an empty cell, the old cells hold no assignment
+abbrev pub HoldsNone : {D : Type 0} → DomainOps D → List Term → Settled → List D → Type 0
+HoldsNone ops terms Quiet old = Unit {0}
+HoldsNone ops terms (Empty t) old = (numbers : List ℕ) → HoldAssignment ops terms old numbers → ⊥

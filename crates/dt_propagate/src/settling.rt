@@ -4,7 +4,7 @@ ghost use Rattle.dt_box.specs.Stillness.{HasNoEmpty, IsSettled};
 ghost use Rattle.dt_box.specs.Watching.{Covers, watches_of};
 ghost use Rattle.dt_propagate.specs.Marks.{HasRoom};
 ghost use Rattle.dt_propagate.specs.Passing.{AreMarked};
-ghost use Rattle.dt_propagate.specs.Settling.{IsLogged, IsProgress, IsEnd};
+ghost use Rattle.dt_propagate.specs.Settling.{IsLogged, IsProgress, IsEnd, KeepsHeld, HoldsNone};
 
 use crate::marks::Marks;
 use crate::passing::pass;
@@ -45,7 +45,10 @@ fn settle_marked<D: Domain>(
     requires marked { AreMarked D.ops problem.now.terms cells.old marks.old.bits.words.items }
     ensures progress { IsProgress D.ops problem.now.terms cells.old trail.old draft.old.lines cells.new trail.new draft.new.lines }
     ensures end { IfOk result (λ end. IsEnd D.ops problem.now.terms end cells.new (IsSettled D.ops problem.now.terms cells.new)) }
+    ensures keeps { KeepsHeld D.ops problem.now.terms cells.old cells.new }
+    ensures none { IfOk result (λ end. HoldsNone D.ops problem.now.terms end cells.old) }
 {
+    let _ = &problem.terms;
     loop {
         match pass(problem, watches, cells, trail, draft, marks)? {
             Took::Nothing => return Ok(Settled::Quiet),
@@ -73,6 +76,8 @@ pub fn settle_from<D: Deciding>(
     requires covers { Covers D.ops problem.now.terms cells.old changed.now }
     ensures progress { IsProgress D.ops problem.now.terms cells.old trail.old draft.old.lines cells.new trail.new draft.new.lines }
     ensures end { IfOk result (λ end. IsEnd D.ops problem.now.terms end cells.new (IsSettled D.ops problem.now.terms cells.new)) }
+    ensures keeps { KeepsHeld D.ops problem.now.terms cells.old cells.new }
+    ensures none { IfOk result (λ end. HoldsNone D.ops problem.now.terms end cells.old) }
 {
     let _ = &problem.terms;
     let mut marks = Marks::new(alloc, problem.terms.len(), 0, NARROWINGS)?;
@@ -96,6 +101,8 @@ pub fn settle_with<D: Deciding>(
     ensures cells { AreCells D.ops problem.now.terms cells.new }
     ensures logged { IsLogged D.ops problem.now.terms cells.old draft.old.lines cells.new draft.new.lines }
     ensures end { IfOk result (λ end. IsEnd D.ops problem.now.terms end cells.new (IsSettled D.ops problem.now.terms cells.new)) }
+    ensures keeps { KeepsHeld D.ops problem.now.terms cells.old cells.new }
+    ensures none { IfOk result (λ end. HoldsNone D.ops problem.now.terms end cells.old) }
 {
     let _ = &problem.terms;
     let count = problem.terms.len();
@@ -117,6 +124,8 @@ pub fn settle<D: Deciding>(
     ensures cells { AreCells D.ops problem.now.terms cells.new }
     ensures logged { IsLogged D.ops problem.now.terms cells.old draft.old.lines cells.new draft.new.lines }
     ensures end { IfOk result (λ end. IsEnd D.ops problem.now.terms end cells.new (IsSettled D.ops problem.now.terms cells.new)) }
+    ensures keeps { KeepsHeld D.ops problem.now.terms cells.old cells.new }
+    ensures none { IfOk result (λ end. HoldsNone D.ops problem.now.terms end cells.old) }
 {
     let watches = Watches::new(alloc, problem)?;
     settle_with(alloc, problem, &watches, cells, draft)
