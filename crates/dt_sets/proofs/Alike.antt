@@ -8,7 +8,7 @@ use Rattle.std.proofs.lemmas.List.{take_all}
 use Rattle.std.proofs.lemmas.List.Folds.{list_any_more}
 use Rattle.dt_bits.specs.Bits.{bit, differs, number_of}
 use Rattle.dt_bits.specs.declared.value.Width.{Width}
-use Rattle.dt_bits.proofs.BitLemmas.{same_bits, bit_of_or, bit_of_xor, bit_of_zero, bit_of_number, number_of_below, bit_of_complement}
+use Rattle.dt_bits.proofs.BitLemmas.{same_bits, bit_of_or, bit_of_xor, bit_of_number, number_of_below, bit_of_complement}
 use Rattle.dt_sets.specs.declared.Sets.{Sets}
 use Rattle.dt_sets.specs.Lists.{below}
 use Rattle.dt_sets.specs.Sets.{IsSets, listed, listing, everything, agree_at, agreed_mask, agreed_value, first, sets_full}

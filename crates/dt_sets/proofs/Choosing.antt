@@ -1,7 +1,7 @@
 -- The operands that an operator uses, and one of them that has one number.
-use Rattle.std.proofs.Common.{◌≡◌, ℕ, zero, suc, ◌*◌, ◌^◌, ◌<◌, ◌≤◌, Bool, true, false, not, ◌&&◌, ◌||◌, cond, eqb, ltb, leb, List, [], ◌∷◌, length, refl, sym, ap, ◌∙◌, subst, arith}
-use Rattle.std.specs.List.{list_any, filter}
-use Rattle.std.proofs.lemmas.Bool.{cond_both, cond-true, cond-false, ltb-true}
+use Rattle.std.proofs.Common.{◌≡◌, ℕ, zero, suc, ◌*◌, ◌<◌, ◌≤◌, Bool, true, false, not, ◌&&◌, ◌||◌, cond, eqb, ltb, leb, List, [], ◌∷◌, length, refl, sym, ap, ◌∙◌, subst, arith}
+use Rattle.std.specs.List.{filter}
+use Rattle.std.proofs.lemmas.Bool.{cond-true, cond-false, ltb-true}
 use Rattle.std.proofs.lemmas.List.Elements.{filter_agree}
 use Rattle.std.proofs.lemmas.Nat.{pow_pos}
 use Rattle.std.proofs.Math.Nat.{mul-le-mul}
@@ -14,7 +14,7 @@ use Rattle.dt_bits.specs.declared.value.Width.{Width}
 use Rattle.dt_domain.specs.Domain.{Fitting, operand}
 use Rattle.dt_sets.specs.declared.Sets.{Sets}
 use Rattle.dt_sets.specs.Lists.{rising}
-use Rattle.dt_sets.specs.Sets.{IsSets, listed, listing, sets_holds, sets_is_empty, no_sets, sets_full, gathered}
+use Rattle.dt_sets.specs.Sets.{IsSets, listed, listing, sets_is_empty, no_sets, sets_full, gathered}
 use Rattle.dt_sets.specs.Forward.{valued, width_after, value_with, numbers_at, some_used_empty, are_few, values, values_of, sets_forward}
 use Rattle.dt_sets.specs.Backward.{some_give, partners, is_possible, fixed, fixed_gives, sets_backward}
 use Rattle.dt_sets.specs.Ops.{sets_ops}

@@ -1,5 +1,5 @@
 -- Writes into the room for numbers.
-use Rattle.std.proofs.Common.{◌≡◌, ℕ, suc, ◌+◌, ◌-◌, ◌<◌, ◌≤◌, List, [], ◌∷◌, ◌++◌, length, get_or, set, replicate, refl, sym, ap, ◌∙◌, append_assoc, arith, length-append}
+use Rattle.std.proofs.Common.{◌≡◌, ℕ, suc, ◌+◌, ◌-◌, ◌<◌, List, [], ◌∷◌, ◌++◌, length, get_or, set, replicate, refl, sym, ap, ◌∙◌, append_assoc, arith, length-append}
 use Rattle.std.proofs.lemmas.List.{set-append_left, set-append_right, length-set, get_or-take}
 use Rattle.dt_sets.specs.declared.Sets.{Sets}
 use Rattle.dt_sets.specs.Sets.{capacity, padded, listed, listing, IsListing}

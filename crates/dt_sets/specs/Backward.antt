@@ -1,5 +1,5 @@
 -- Backward: the numbers of an operand that some numbers of the others take to a number of the result.
-use Rattle.std.specs.Prelude.{ℕ, Bool, true, false, not, ◌==◌, ◌&&◌, ◌||◌, if◌then◌else◌, List, [], ◌∷◌}
+use Rattle.std.specs.Prelude.{ℕ, Bool, not, ◌==◌, ◌&&◌, ◌||◌, if◌then◌else◌, List, [], ◌∷◌}
 use Rattle.std.specs.List.{list_any, filter}
 use Rattle.dt_bits.specs.declared.op.Op.{Op}
 use Rattle.dt_domain.specs.Domain.{operand}

@@ -4,7 +4,7 @@ use Rattle.std.specs.List.{AllByRecursion, filter, list_all}
 use Rattle.dt_bits.specs.Bits.{IsWidth, bit, number_of, differs}
 use Rattle.dt_bits.specs.declared.value.Bv.{Bv}
 use Rattle.dt_bits.specs.declared.value.Width.{Width}
-use Rattle.dt_sets.specs.Lists.{IsRising, has, insert, rising, below}
+use Rattle.dt_sets.specs.Lists.{IsRising, has, below}
 use Rattle.dt_sets.specs.declared.Sets.{Sets}
 
 -- how many numbers can be listed

@@ -1,11 +1,10 @@
 -- What a Triple holds, its normal form, and the calls that make one.
-use Rattle.std.specs.Prelude.{◌≡◌, ℕ, Bool, true, false, ◌&&◌, if◌then◌else◌, List, [], ◌∷◌}
+use Rattle.std.specs.Prelude.{◌≡◌, ℕ, Bool, false, ◌&&◌, if◌then◌else◌, List, [], ◌∷◌}
 use Rattle.std.specs.List.{filter}
 use Rattle.dt_bits.specs.declared.op.Op.{Op}
 use Rattle.dt_bits.specs.declared.value.Bv.{Bv}
 use Rattle.dt_bits.specs.declared.value.Width.{Width}
 use Rattle.dt_known.specs.declared.Known.{Known}
-use Rattle.dt_range.specs.declared.Range.{Range}
 use Rattle.dt_pair.specs.declared.Pair.{Pair}
 use Rattle.dt_pair.specs.Pair.{IsPair, pair_holds, no_pair, ends, pair_full, pair_one, pair_meet, pair_with_bit, pair_forward, pair_backward}
 use Rattle.dt_sets.specs.declared.Sets.{Sets}

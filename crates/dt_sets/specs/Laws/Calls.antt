@@ -1,14 +1,14 @@
 -- Forward and backward make Sets of the right widths, and hold what they must.
-use Rattle.std.proofs.Common.{◌≡◌, ℕ, zero, suc, ◌*◌, ◌-◌, ◌^◌, ◌<◌, ◌≤◌, Bool, true, false, not, ◌&&◌, ◌||◌, cond, eqb, ltb, leb, List, [], ◌∷◌, length, map, refl, sym, ap, ◌∙◌, subst, arith}
+use Rattle.std.proofs.Common.{◌≡◌, ℕ, zero, suc, ◌*◌, ◌^◌, ◌<◌, Bool, true, false, not, ◌&&◌, ◌||◌, cond, eqb, ltb, leb, List, [], ◌∷◌, length, map, refl, sym, ap, ◌∙◌, subst, arith}
 use Rattle.std.specs.List.{AllByRecursion, filter, flat_map, list_any}
-use Rattle.std.proofs.lemmas.Bool.{cond_both, cond-true, cond-false, and_parts, and_from, or_from, lt-ltb, ltb-true, le-leb, leb-true, eqb-true, eq-eqb}
+use Rattle.std.proofs.lemmas.Bool.{cond_both, cond-true, cond-false, and_parts, and_from, or_from, lt-ltb, ltb-true, le-leb, eqb-true}
 use Rattle.std.proofs.lemmas.Nat.{pow_pos}
-use Rattle.dt_bits.specs.Bits.{IsWidth, IsValue}
-use Rattle.dt_bits.specs.Ops.{arity_of, value_of, some_used}
+use Rattle.dt_bits.specs.Bits.{IsWidth}
+use Rattle.dt_bits.specs.Ops.{arity_of, some_used}
 use Rattle.dt_bits.specs.declared.op.Op.{Op}
 use Rattle.dt_bits.specs.declared.value.Width.{Width}
 use Rattle.dt_bits.proofs.Operators.{value_used, value_fits, result_is_width, none_used}
-use Rattle.dt_domain.specs.Domain.{Fitting, FittingAt, HoldUsed, AreUsedKnown, IsAllKnown, value_at, operand, Holds, IsDomainOf, result_width}
+use Rattle.dt_domain.specs.Domain.{Fitting, FittingAt, HoldUsed, AreUsedKnown, IsAllKnown, operand}
 use Rattle.dt_sets.specs.declared.Sets.{Sets}
 use Rattle.dt_sets.specs.Lists.{has, rising}
 use Rattle.dt_sets.specs.Sets.{capacity, IsSets, listed, listing, sets_holds, sets_is_empty, no_sets, sets_full, gathered}

@@ -1,8 +1,8 @@
 -- The form of Sets: what is listed, that it is valid, and that it is told by the numbers that are held.
-use Rattle.std.proofs.Common.{◌≡◌, ℕ, suc, ◌+◌, ◌-◌, ◌^◌, ◌<◌, ◌≤◌, Bool, true, false, cond, ltb, leb, not, ◌&&◌, List, [], ◌∷◌, ◌++◌, length, take, set, replicate, refl, sym, ap, ◌∙◌, subst, ◌⊎◌, inl, inr, ⊎_elim, append_assoc, arith, length-append}
+use Rattle.std.proofs.Common.{◌≡◌, ℕ, ◌-◌, ◌^◌, ◌<◌, ◌≤◌, Bool, true, false, ltb, leb, ◌&&◌, List, [], ◌∷◌, length, replicate, refl, sym, ap, ◌∙◌, subst, ⊎_elim, arith, length-append}
 use Rattle.std.specs.List.{AllByRecursion, filter}
-use Rattle.std.proofs.lemmas.Bool.{cond_both, cond-true, cond-false, cases_Bool, leb-true, leb-false, le-leb, ltb-true, lt-ltb, false≢true}
-use Rattle.std.proofs.lemmas.List.{length-replicate, set-append_left, set-append_right, length-set}
+use Rattle.std.proofs.lemmas.Bool.{cond_both, cond-true, cond-false, cases_Bool, leb-true, leb-false, ltb-true, lt-ltb, false≢true}
+use Rattle.std.proofs.lemmas.List.{length-replicate}
 use Rattle.std.proofs.Math.Seq.{take-append_seam}
 use Rattle.std.proofs.Math.Nat.{pow-le-pow_right}
 use Rattle.dt_bits.specs.Bits.{IsWidth, IsValue}
@@ -10,7 +10,7 @@ use Rattle.dt_bits.specs.declared.value.Bv.{Bv}
 use Rattle.dt_bits.specs.declared.value.Width.{Width}
 use Rattle.dt_sets.specs.declared.Sets.{Sets}
 use Rattle.dt_sets.specs.Lists.{IsRising, has, below}
-use Rattle.dt_sets.specs.Sets.{capacity, padded, listing, everything, listed, IsListing, is_narrow, IsSets, sets_holds, sets_is_empty, HoldSame, IsCanonical, no_sets, sets_full, sets_one, kept, gathered}
+use Rattle.dt_sets.specs.Sets.{capacity, listing, everything, listed, IsListing, is_narrow, IsSets, sets_holds, HoldSame, IsCanonical, no_sets, sets_full, sets_one, kept, gathered}
 use Rattle.dt_sets.specs.Laws.Lists.{all_has, all-filter, rising-filter, length-filter, has-filter, has-below, all-below, rising-below, length-below, same_list}
 
 -- ---- listed numbers

@@ -1,22 +1,20 @@
 -- The bits that Sets know: those on which all listed numbers agree.
-use Rattle.std.proofs.Common.{◌≡◌, ℕ, suc, ◌-◌, ◌^◌, ◌<◌, ◌≤◌, Bool, true, false, not, ◌&&◌, ◌||◌, eqb, List, [], ◌∷◌, length, bit_and, refl, sym, ap, ◌∙◌, subst, ⊎_elim, arith}
-use Rattle.std.specs.Prelude.{◌↔◌}
-use Rattle.std.specs.List.{AllByRecursion, list_all}
-use Rattle.std.proofs.lemmas.Bool.{and_parts, and_from, cases_Bool, cases_lt, eqb-true, eqb-false, false≢true, true≢false}
+use Rattle.std.proofs.Common.{◌≡◌, ℕ, ◌-◌, ◌^◌, ◌<◌, ◌≤◌, Bool, true, false, not, ◌&&◌, ◌||◌, eqb, List, [], ◌∷◌, length, bit_and, refl, sym, ap, ◌∙◌, subst, ⊎_elim, arith}
+use Rattle.std.specs.List.{AllByRecursion}
+use Rattle.std.proofs.lemmas.Bool.{and_parts, and_from, cases_Bool, cases_lt, eqb-true, false≢true, true≢false}
 use Rattle.std.proofs.lemmas.Nat.{pow_pos, and_le_l}
 use Rattle.std.proofs.Math.Nat.{pow-le-pow_right}
 use Rattle.dt_lemmas.proofs.Booleans.{and_alike, and_kept}
-use Rattle.dt_bits.specs.Bits.{IsWidth, IsValue, bit, number_of, differs}
+use Rattle.dt_bits.specs.Bits.{bit, differs}
 use Rattle.dt_bits.specs.declared.value.Bv.{Bv}
-use Rattle.dt_bits.specs.declared.value.Width.{Width}
 use Rattle.dt_bits.proofs.BitLemmas.{same_bits, bit_of_and, bit_of_zero, bit_of_ones, bit_above, number_of_below, bit_of_number}
 use Rattle.dt_domain.specs.Domain.{KnowsBit, IsAllKnown}
 use Rattle.dt_sets.specs.declared.Sets.{Sets}
 use Rattle.dt_sets.specs.Lists.{IsRising, has}
-use Rattle.dt_sets.specs.Sets.{IsSets, listed, listing, sets_holds, sets_is_empty, agree_at, agreed_mask, agreed_value, sets_mask, sets_value, sets_one}
+use Rattle.dt_sets.specs.Sets.{IsSets, listed, sets_holds, sets_is_empty, agree_at, agreed_mask, agreed_value, sets_mask, sets_one}
 use Rattle.dt_sets.specs.Ops.{sets_ops}
 use Rattle.dt_sets.specs.Laws.Lists.{all_has, here}
-use Rattle.dt_sets.specs.Laws.Form.{counted, few_is, few_holds, many_lists, listed_is, held_fits}
+use Rattle.dt_sets.specs.Laws.Form.{counted, few_is, few_holds, many_lists, listed_is}
 
 -- ---- one bit
 

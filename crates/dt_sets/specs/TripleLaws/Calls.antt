@@ -1,10 +1,10 @@
 -- Triple keeps the laws of a domain, since Pair and Sets do and the normal form holds what both hold.
-use Rattle.std.proofs.Common.{◌≡◌, ℕ, zero, suc, ◌-◌, ◌^◌, ◌<◌, ◌⊎◌, inl, inr, Bool, true, false, ◌&&◌, sym, refl, ap, ◌∙◌, subst, ⊎_elim}
+use Rattle.std.proofs.Common.{◌≡◌, ℕ, zero, suc, ◌^◌, ◌<◌, ◌⊎◌, inl, inr, Bool, true, false, sym, refl, ap, ◌∙◌, subst, ⊎_elim}
 use Rattle.std.specs.Prelude.{◌↔◌}
-use Rattle.std.proofs.lemmas.Bool.{and_from, and_parts, cases_Bool, true≢false}
+use Rattle.std.proofs.lemmas.Bool.{and_from, and_parts, cases_Bool}
 use Rattle.dt_lemmas.proofs.Equalities.{three}
 use Rattle.dt_bits.specs.Bits.{IsWidth, IsValue, bit, width}
-use Rattle.dt_bits.specs.Ops.{arity_of, fits_at, width_of, value_of}
+use Rattle.dt_bits.specs.Ops.{fits_at, width_of, value_of}
 use Rattle.dt_bits.specs.declared.op.Op.{Op}
 use Rattle.dt_bits.specs.declared.value.Bv.{Bv}
 use Rattle.dt_bits.specs.declared.value.Width.{Width}
@@ -22,7 +22,7 @@ use Rattle.dt_sets.specs.Ops.{sets_ops}
 use Rattle.dt_sets.specs.Laws.{sets_laws}
 use Rattle.dt_sets.specs.Triple.{IsTriple, pair_of, reduced, triple_holds, triple_full, triple_one, triple_meet, triple_with_bit, triple_forward, triple_backward}
 use Rattle.dt_sets.specs.TripleOps.{triple_ops}
-use Rattle.dt_sets.specs.TripleLaws.Reduced.{Reduces, reduced_width, reduced_holds, reduced_is, reduced_empty, reduced_knows, reduced_all, pair_full as pair_not_empty, none_empty, some_full, low_held}
+use Rattle.dt_sets.specs.TripleLaws.Reduced.{Reduces, reduced_width, reduced_holds, reduced_is, reduced_empty, reduced_knows, reduced_all, pair_full as pair_not_empty, some_full, low_held}
 
 -- ---- a Pair and Sets that are made
 

@@ -1,9 +1,8 @@
 -- The Triple that lists given numbers: it is a Pair in normal form beside them, and holds these numbers.
-use Rattle.std.proofs.Common.{◌≡◌, ℕ, ◌-◌, ◌/◌, ◌^◌, ◌<◌, ◌≤◌, Bool, true, false, not, ◌&&◌, ◌||◌, cond, eqb, leb, List, [], ◌∷◌, bit_and, refl, sym, ap, ◌∙◌, subst, arith}
-use Rattle.std.specs.List.{AllByRecursion, filter, list_all}
-use Rattle.std.proofs.lemmas.Bool.{and_from, and_parts, cond-true, cond-false, eqb-true, eq-eqb, le-leb, le-ltb, leb-true, false≢true, true≢false, cases_Bool}
+use Rattle.std.proofs.Common.{◌≡◌, ℕ, ◌/◌, ◌^◌, ◌<◌, ◌≤◌, Bool, true, false, ◌&&◌, ◌||◌, eqb, leb, List, [], ◌∷◌, bit_and, refl, sym, ap, ◌∙◌, arith}
+use Rattle.std.specs.List.{AllByRecursion, filter}
+use Rattle.std.proofs.lemmas.Bool.{and_from, cond-true, eqb-true, eq-eqb, le-leb, le-ltb, false≢true, true≢false}
 use Rattle.std.proofs.lemmas.Nat.{and_le_l}
-use Rattle.dt_lemmas.proofs.Booleans.{same_test, and_kept}
 use Rattle.dt_lemmas.proofs.Powers.{quotient_between}
 use Rattle.dt_bits.specs.Bits.{IsWidth, bit}
 use Rattle.dt_bits.specs.declared.value.Width.{Width}
@@ -11,18 +10,15 @@ use Rattle.dt_bits.proofs.BitLemmas.{same_bits, bit_of_and, same_bit}
 use Rattle.dt_known.specs.declared.Known.{Known}
 use Rattle.dt_known.specs.Known.{IsKnown, known_holds}
 use Rattle.dt_known.specs.Laws.Bits.{held_is}
-use Rattle.dt_range.specs.declared.Range.{Range}
-use Rattle.dt_range.specs.Range.{IsRange, range_holds, range_mask}
+use Rattle.dt_range.specs.Range.{range_holds}
 use Rattle.dt_range.specs.Laws.KnownBits.{mask_bit}
 use Rattle.dt_pair.specs.declared.Pair.{Pair}
 use Rattle.dt_pair.specs.Ends.{has_bits}
 use Rattle.dt_pair.specs.Pair.{IsPair, pair_holds, ends}
 use Rattle.dt_pair.specs.Laws.Form.{normal_again, no_pair_is}
 use Rattle.dt_pair.specs.Laws.Whole.{knowing_still}
-use Rattle.dt_sets.specs.declared.Sets.{Sets}
-use Rattle.dt_sets.specs.declared.Triple.{Triple}
 use Rattle.dt_sets.specs.Lists.{IsRising, has}
-use Rattle.dt_sets.specs.Sets.{IsSets, listed, listing, sets_holds, agree_at, agreed_mask, agreed_value}
+use Rattle.dt_sets.specs.Sets.{listing, agreed_mask, agreed_value}
 use Rattle.dt_sets.specs.Triple.{pair_of, triple_holds, last, agreed, of_numbers, no_triple, reduced, IsTriple}
 use Rattle.dt_sets.specs.Laws.Lists.{all_has, all_weaker, here}
 use Rattle.dt_sets.specs.Laws.Form.{AreListed, listing_of, listing_holds, listed_is, nothing_of}

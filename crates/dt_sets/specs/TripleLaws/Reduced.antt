@@ -1,14 +1,14 @@
 -- The normal form holds what both hold, is valid, keeps the known bits, and is told by what it holds.
-use Rattle.std.proofs.Common.{◌≡◌, ℕ, ◌-◌, ◌^◌, ◌<◌, ◌≤◌, Bool, true, false, ◌&&◌, cond, ltb, List, [], ◌∷◌, Option, Some, None, bit_and, refl, sym, ap, ◌∙◌, subst, ⊎_elim, arith}
+use Rattle.std.proofs.Common.{◌≡◌, ℕ, ◌-◌, ◌^◌, ◌<◌, ◌≤◌, Bool, true, false, ◌&&◌, ltb, List, [], ◌∷◌, Some, None, refl, sym, ap, ◌∙◌, subst, ⊎_elim, arith}
 use Rattle.std.specs.Prelude.{MatchOption}
 use Rattle.std.specs.List.{filter}
 use Rattle.std.proofs.lemmas.Bool.{and_from, and_parts, cases_Bool, cases_lt, cond_both, cond-true, cond-false, lt-ltb, false≢true, true≢false}
 use Rattle.std.proofs.lemmas.Nat.{pow_pos}
 use Rattle.dt_lemmas.proofs.Booleans.{and_turn, and_kept}
-use Rattle.dt_bits.specs.Bits.{IsWidth, bit}
+use Rattle.dt_bits.specs.Bits.{bit}
 use Rattle.dt_bits.specs.declared.value.Width.{Width}
 use Rattle.dt_bits.proofs.BitLemmas.{same_bits, bit_of_and, bit_of_ones, bit_above}
-use Rattle.dt_domain.specs.Domain.{KnowsBit, IsAllKnown, IsDomainOf}
+use Rattle.dt_domain.specs.Domain.{KnowsBit, IsAllKnown}
 use Rattle.dt_range.specs.Range.{range_is_empty, range_pick}
 use Rattle.dt_pair.specs.declared.Pair.{Pair}
 use Rattle.dt_pair.specs.Pair.{IsPair, pair_holds, no_pair}
@@ -19,13 +19,12 @@ use Rattle.dt_pair.specs.Laws.Unique.{canonical as pair_canonical}
 use Rattle.dt_sets.specs.declared.Sets.{Sets}
 use Rattle.dt_sets.specs.declared.Triple.{Triple}
 use Rattle.dt_sets.specs.Lists.{has}
-use Rattle.dt_sets.specs.Sets.{IsSets, is_narrow, listed, listing, everything, no_sets, sets_holds}
-use Rattle.dt_sets.specs.Ops.{sets_ops}
-use Rattle.dt_sets.specs.Triple.{pair_of, beside, triple_holds, of_numbers, of_pair, no_triple, reduced, IsTriple, IsCanonical}
+use Rattle.dt_sets.specs.Sets.{IsSets, is_narrow, listed, everything, no_sets, sets_holds}
+use Rattle.dt_sets.specs.Triple.{pair_of, beside, triple_holds, of_numbers, of_pair, reduced, IsTriple, IsCanonical}
 use Rattle.dt_sets.specs.TripleOps.{triple_ops}
 use Rattle.dt_sets.specs.Laws.Lists.{here, has-filter, same_list}
 use Rattle.dt_sets.specs.Laws.Form.{AreListed, areas, filter_listed, few_holds, many_holds, everything_of}
-use Rattle.dt_sets.specs.TripleLaws.Numbers.{numbers_hold, numbers_is, numbers_width, numbers_full, numbers_some, numbers_know}
+use Rattle.dt_sets.specs.TripleLaws.Numbers.{numbers_hold, numbers_is, numbers_width, numbers_know}
 
 -- a Pair and Sets of one width
 pub record Reduces (p : Pair) (s : Sets) : Type 0 where

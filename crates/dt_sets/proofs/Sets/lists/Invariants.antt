@@ -1,4 +1,4 @@
-use Rattle.std.proofs.Common.{◌≡◌, Bool, false, eqb, take}
+use Rattle.std.proofs.Common.{◌≡◌, false, eqb, take}
 use Rattle.std.specs.List.{list_any}
 use Rattle.dt_sets.specs.Sets.{listed}
 use Rattle.dt_sets.proofs.Sets.lists.Given as goal

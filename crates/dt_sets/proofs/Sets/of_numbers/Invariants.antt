@@ -1,4 +1,4 @@
-use Rattle.std.proofs.Common.{◌≡◌, ℕ, ◌^◌, [], true, ltb, take}
+use Rattle.std.proofs.Common.{◌≡◌, ◌^◌, [], true, ltb, take}
 use Rattle.std.specs.List.{list_all}
 use Rattle.dt_sets.specs.Sets.{listing}
 use Rattle.dt_sets.specs.Gather.{added_all, IsGathering}

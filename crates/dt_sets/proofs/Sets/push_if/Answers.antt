@@ -1,4 +1,4 @@
-use Rattle.std.proofs.Common.{cond, List, [], ◌∷◌, ◌++◌, sym, ap, ◌∙◌, append-nil}
+use Rattle.std.proofs.Common.{cond, [], ◌∷◌, ◌++◌, sym, ap, ◌∙◌, append-nil}
 use Rattle.dt_sets.specs.Sets.{listed, listing}
 use Rattle.dt_sets.proofs.Sets.push_if.Goals as goal
 

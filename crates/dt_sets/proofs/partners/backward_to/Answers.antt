@@ -1,5 +1,4 @@
-use Rattle.std.proofs.Common.{◌||◌, sym, ◌∙◌, subst}
-use Rattle.dt_bits.specs.Ops.{some_used}
+use Rattle.std.proofs.Common.{sym, ◌∙◌, subst}
 use Rattle.dt_sets.specs.Sets.{IsSets}
 use Rattle.dt_sets.specs.Laws.Calls.{operand_is}
 use Rattle.dt_sets.proofs.Choosing.{backward_none, backward_unlisted, backward_few, unlisted_none}

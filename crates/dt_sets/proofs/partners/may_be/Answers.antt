@@ -1,6 +1,5 @@
 use Rattle.std.proofs.Common.{◌≡◌, sym, ap, ◌∙◌, arith}
 use Rattle.dt_domain.specs.Domain.{operand}
-use Rattle.dt_sets.specs.declared.Sets.{Sets}
 use Rattle.dt_sets.specs.Backward.{fixed_gives}
 use Rattle.dt_sets.proofs.Choosing.{alone_is, refit_first, refit_second, refit_third, fix_first, fix_second, fix_third}
 use Rattle.dt_sets.proofs.partners.may_be.Goals as goal

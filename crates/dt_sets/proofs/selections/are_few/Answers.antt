@@ -1,4 +1,4 @@
-use Rattle.std.proofs.Common.{◌*◌, ◌≤◌, leb, length, ap, ◌∙◌, arith}
+use Rattle.std.proofs.Common.{◌*◌, leb, arith}
 use Rattle.dt_lemmas.proofs.Equalities.{three}
 use Rattle.dt_sets.proofs.Choosing.{two_counts, three_counts}
 use Rattle.dt_sets.proofs.Loops.{count_is}

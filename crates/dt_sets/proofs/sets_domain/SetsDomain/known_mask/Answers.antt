@@ -1,4 +1,4 @@
-use Rattle.std.proofs.Common.{◌≡◌, ◌<◌, sym, ap, arith}
+use Rattle.std.proofs.Common.{sym, ap, arith}
 use Rattle.dt_sets.specs.Sets.{agreed_mask}
 use Rattle.dt_sets.proofs.Alike.{counted_few, none_listed}
 use Rattle.dt_sets.proofs.sets_domain.SetsDomain.known_mask.Goals as goal

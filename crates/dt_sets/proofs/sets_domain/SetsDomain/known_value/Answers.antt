@@ -1,5 +1,5 @@
-use Rattle.std.proofs.Common.{◌≡◌, ◌<◌, length, bit_and, sym, ap, ◌∙◌, arith}
-use Rattle.dt_sets.specs.Sets.{listed, agreed_value, sets_mask}
+use Rattle.std.proofs.Common.{◌<◌, length, bit_and, sym, ap, ◌∙◌, arith}
+use Rattle.dt_sets.specs.Sets.{listed, agreed_value}
 use Rattle.dt_sets.specs.Laws.Form.{few_is}
 use Rattle.dt_sets.proofs.Alike.{counted_few, none_listed, value_is}
 use Rattle.dt_sets.proofs.Loops.{count_is}

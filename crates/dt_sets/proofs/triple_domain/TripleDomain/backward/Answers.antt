@@ -1,11 +1,10 @@
-use Rattle.std.proofs.Common.{refl, sym, ap, ◌∙◌, subst}
+use Rattle.std.proofs.Common.{◌∙◌}
 use Rattle.dt_lemmas.proofs.Equalities.{three}
 use Rattle.dt_pair.specs.Pair.{normal}
-use Rattle.dt_pair.specs.Laws.Parts.{alike_known, alike_range, fitting_known, fitting_range, at_known, at_range}
-use Rattle.dt_pair.specs.Laws.Calls.{meet_parts, bit_parts, forward_parts, backward_parts}
+use Rattle.dt_pair.specs.Laws.Parts.{at_known, at_range}
+use Rattle.dt_pair.specs.Laws.Calls.{backward_parts}
 use Rattle.dt_sets.specs.Triple.{pair_of, reduced}
-use Rattle.dt_sets.specs.TripleOps.{triple_ops}
-use Rattle.dt_sets.specs.TripleLaws.Calls.{alike_pair, alike_sets, meet_red, bit_red, fitting_pair, fitting_sets, forward_red, at_pair, at_sets, backward_red}
+use Rattle.dt_sets.specs.TripleLaws.Calls.{at_pair, at_sets, backward_red}
 use Rattle.dt_sets.proofs.Triples.{made}
 use Rattle.dt_sets.proofs.triple_domain.TripleDomain.backward.Goals as goal
 
