@@ -8,7 +8,8 @@ makes `limits` (a model at every limit at once), `many_nodes`, `many_regs`, `man
 of one byte), `bytes_list` and `bytes_image` (an image of just 16 MiB for it, which meets the list),
 `bytes_broken` (the same with its last word's address repeated); `reads` (a model of 1024 nodes
 whose walk makes 64 reads), `reads_list` (a list at every limit at once), `reads_image` (which meets
-it), and `reads_long` (the list with comments, of 16 MiB); and the logs `log_steps`, `log_tries`
+it), `reads_long` (the list with comments, of 16 MiB) and `reads_case` (a case of `dt_cases` that
+prints the list); and the logs `log_steps`, `log_tries`
 and `log_splits` (64 MiB each: a long refutation, the most values of tries, and the most items of a
 tree) and `log_opens` (64 MiB of items of which the second is already wrong).
 """
@@ -196,7 +197,7 @@ def reads_model():
     lines += ["node result_%02d done (slice 55 0 w63) 12" % i for i in range(RESULTS)]
     lines += ["node lost fault 1", "node other fault 2", "end"]
     assert sum(line.startswith("node") for line in lines) == 1024
-    write("reads", lines)
+    return lines
 
 
 def reads_cells(access):
@@ -259,12 +260,14 @@ def reads_list():
     lines += ["context c%02d" % i for i in range(CONTEXTS)]
     for i in range(ACCESSES):
         lines += ["access a%02d c%02d" % (i, i % CONTEXTS)] + reads_demands(i)
-    lines += reads_links()
-    write("reads_list", lines + ["end"])
-    size = sum(len(line) + 1 for line in lines) + 4
+    return lines + reads_links() + ["end"]
+
+
+def reads_long(lines):
+    size = sum(len(line) + 1 for line in lines)
     comment = "# " + "x" * 16381
     more, rest = divmod(MOST - size, len(comment) + 1)
-    write("reads_long", lines[:2] + [comment] * more + ["#" + "x" * (rest - 2)] + lines[2:] + ["end"])
+    write("reads_long", lines[:2] + [comment] * more + ["#" + "x" * (rest - 2)] + lines[2:])
 
 
 def reads_image():
@@ -279,10 +282,28 @@ def reads_image():
     write("reads_image", lines + ["end"])
 
 
+def printed(line):
+    """The printed spelling of a line of a list: the numbers of ranges and masks in hexadecimal."""
+    words = line.split()
+    if words[0] not in ("tables", "keep", "bits", "range"):
+        return line
+    return " ".join(hex(int(word, 0)) if word[0].isdigit() else word for word in words)
+
+
+def reads_case(model, lines):
+    widths = 16 * (56 + 31 * 64) + 64 * (56 + 15 * 64 + 64 * READS)
+    expected = [printed(line) for line in lines] + ["choices %d %d" % (16 * 32 + 64 * (16 + READS), widths)]
+    parts = (("model", model), ("list", lines), ("expect", expected))
+    write("reads_case", ["case reads list"] + [line for word, text in parts for line in [word] + ["|" + piece for piece in text]])
+
+
 def reads():
-    reads_model()
-    reads_list()
+    model, lines = reads_model(), reads_list()
+    write("reads", model)
+    write("reads_list", lines)
+    reads_long(lines)
     reads_image()
+    reads_case(model, lines)
 
 
 limits()

@@ -1,6 +1,7 @@
 -- A step does the same in two lists of cells that agree on the terms that it is near.
 use Rattle.std.proofs.Common.{◌≡◌, ℕ, zero, suc, ◌<◌, ◌≤◌, true, ◌&&◌, cond, eqb, ltb, List, refl, ap, ◌∙◌, inl, inr, ◌⊎◌, arith}
 use Rattle.std.proofs.lemmas.Bool.{cases_lt, lt-ltb, le-ltb, eq-eqb, or_left, or_right, and_from}
+use Rattle.dt_lemmas.proofs.Equalities.{two, three}
 use Rattle.dt_bits.specs.Bits.{width}
 use Rattle.dt_bits.specs.Ops.{arity_of}
 use Rattle.dt_bits.specs.declared.op.Op.{Op}
@@ -29,12 +30,6 @@ module _ (op : Op) (a b c : ℕ) (w : Width) where
 
   uses_third : 2 < arity_of op → uses (Node op a b c w) c ≡ true
   uses_third l = or_right (ltb 0 (arity_of op) && eqb a c) _ (or_right (ltb 1 (arity_of op) && eqb b c) _ (named 2 c c l refl))
-
-three : {X : Type 0} (f : X → X → X → X) {a b c x y z : X} → a ≡ x → b ≡ y → c ≡ z → f a b c ≡ f x y z
-three f p q r = cc
-
-two : {X Y : Type 0} (f : X → X → Y) {a b x y : X} → a ≡ x → b ≡ y → f a b ≡ f x y
-two f p q = cc
 
 module _ (D : Type 0) (ops : DomainOps D) (cells others : List D) where
   -- the operands of a node have the same cells

@@ -1,21 +1,19 @@
 -- What undoing gives.
-use Rattle.std.proofs.Common.{◌≡◌, ℕ, zero, suc, ◌<◌, ◌≤◌, List, [], ◌∷◌, ◌++◌, length, drop, take, get_or, set, refl, sym, ap, ◌∙◌, subst, ⊎_elim, arith, length-append, length-set, get_or-set_same, get_or-set_other}
+use Rattle.std.proofs.Common.{◌≡◌, ◌≢◌, ℕ, zero, suc, ◌<◌, ◌≤◌, List, [], ◌∷◌, ◌++◌, length, drop, take, get_or, set, refl, sym, ap, ◌∙◌, subst, ⊎_elim, arith, length-append, length-set, get_or-set_same, get_or-set_other}
 use Rattle.std.proofs.Math.ListN.{drop_of_length-le}
 use Rattle.std.proofs.lemmas.List.{take-append-le}
 use Rattle.std.proofs.Math.Seq.{take-append_seam, take-length}
 use Rattle.std.specs.Prelude.{All, Result, Ok, Err, IfOk, OnOk, OnErr}
 use Rattle.std.proofs.lemmas.List.Elements.{All-append, All-cons, All-nil, All-drop}
 use Rattle.std.proofs.lemmas.Bool.{cases_eq}
+use Rattle.dt_lemmas.proofs.Equalities.{two}
 use Rattle.dt_bits.specs.Bits.{width}
 use Rattle.dt_box.specs.Cells.{AreDomains}
 use Rattle.dt_domain.specs.Domain.{DomainOps}
 use Rattle.dt_box.specs.declared.step.Changed.{Changed}
 use Rattle.dt_box.specs.declared.step.Changed.TheVariants.{No, Narrowed, BitKnown, Empty}
 use Rattle.dt_box.specs.Changes.{IsChange}
-use Rattle.dt_box.specs.Trails.{undone, back, with_change, IsKept}
-
-pub two : {A B C : Type 0} (f : A → B → C) {a x : A} {b y : B} → a ≡ x → b ≡ y → f a b ≡ f x y
-two f p q = cc
+use Rattle.dt_box.specs.Trails.{terms_of, undone, back, with_change, IsKept}
 
 take_take : {X : Type 0} (xs : List X) (n m : ℕ) → n ≤ m → take n (take m xs) ≡ take n xs
 take_take xs zero m l = refl
@@ -97,6 +95,19 @@ module _ {D : Type 0} where
 
   pub back_done : (cells : List D) (items : List (ℕ × D)) (n : ℕ) → length items ≤ n → back cells items n ≡ cells
   back_done cells items n l = ap (undone cells) (drop_of_length-le items l) ∙ undone_none cells
+
+  -- where no change between two lengths of the trail is of a term, its cell was the same at both
+  pub same_between : (cells : List D) (trail : List (ℕ × D)) (m n t : ℕ) (x : D) → m ≤ n → ((k : ℕ) → m ≤ k → k < n → get_or (terms_of trail) k 0 ≢ t)
+      → get_or (back cells trail m) t x ≡ get_or (back cells trail n) t x
+  same_between cells trail zero zero t x l h = refl
+  same_between cells [] zero (suc n) t x l h = refl
+  same_between cells (change ∷ trail) zero (suc n) t x l h =
+      ap (λ ds. get_or ds t x) (undone_more cells change trail)
+      ∙ get_or-set_other (undone cells trail) change.0 t change.1 x (λ f. absurd (h zero (omega arith) (omega arith) (sym f)))
+      ∙ same_between cells trail zero n t x (omega arith) (λ k a b. h (suc k) (omega arith) (omega arith))
+  same_between cells trail (suc m) zero t x l h = absurd (omega arith)
+  same_between cells [] (suc m) (suc n) t x l h = refl
+  same_between cells (change ∷ trail) (suc m) (suc n) t x l h = same_between cells trail m n t x (omega arith) (λ k a b. h (suc k) (omega arith) (omega arith))
 
   -- ---- what was kept
   pub kept_none : (cells : List D) (trail : List (ℕ × D)) → IsKept cells trail cells trail

@@ -2,7 +2,7 @@
 use Rattle.std.proofs.Common.{◌≡◌, ℕ, zero, suc, ◌<◌, Bool, true, false, cond, eqb, List, [], ◌∷◌, length, get_or, set, sym, ap, ◌∙◌, subst, inl, inr, ◌⊎◌, ⊎_elim, arith, get_or-set_other}
 use Rattle.std.specs.Prelude.{filter}
 use Rattle.std.specs.List.{list_any, range_with_len}
-use Rattle.std.proofs.lemmas.Bool.{cases_Bool, false≢true, true≢false, eq-eqb, eqb-true, or_left, or_right, or_cases, or_parts, eqb-false}
+use Rattle.std.proofs.lemmas.Bool.{cases_Bool, false≢true, true≢false, eq-eqb, eqb-true, or_left, or_right, or_cases, or_parts, eqb-false, false_from_ne_true}
 use Rattle.std.proofs.lemmas.List.FromFn.{get_or-range_with_len, length-range_with_len, get_or-map-range_with_len}
 use Rattle.std.proofs.lemmas.List.Elements.{All-filter}
 use Rattle.dt_bits.specs.Bits.{width}
@@ -20,7 +20,7 @@ use Rattle.dt_box.specs.Watching.{users_of, watches_of, IsStillNear, Covers}
 use Rattle.dt_box.proofs.Neighbours.{step_same}
 use Rattle.dt_box.proofs.Trails.{undone_none, undone_more}
 
-origin_in : (terms : List Term) (s : Step) → IsStep terms s → origin s < length terms
+pub origin_in : (terms : List Term) (s : Step) → IsStep terms s → origin s < length terms
 origin_in terms (Forward t) h = h.0
 origin_in terms (Backward u k) h = h.0
 
@@ -144,7 +144,7 @@ module _ (D : Type 0) (ops : DomainOps D) (terms : List Term) where
       → ((k : ℕ) → k < length changes → ops.is_empty (cell_at ops cells (get_or changes k x).0) ≡ false)
       → ((k : ℕ) → k < length changes → IsStillNear ops terms cells (get_or changes k x).0)
       → IsSettled ops terms cells
-  settled_after cells changes x n h m held still = record { held = λ t l. held_at t l (cases_Bool (list_any (λ c. eqb c.0 t) changes)); still = λ s i. still_at s i (cases_Bool (tells ops terms s cells)) }
+  settled_after cells changes x n h m held still = record { held = λ t l. held_at t l (cases_Bool (list_any (λ c. eqb c.0 t) changes)); still = λ s i. false_from_ne_true (tells ops terms s cells) (λ e. true≢false (sym e ∙ still_at s i e)) }
     where
       held_at : (t : ℕ) → t < length cells → (list_any (λ c. eqb c.0 t) changes ≡ true) ⊎ (list_any (λ c. eqb c.0 t) changes ≡ false) → ops.is_empty (cell_at ops cells t) ≡ false
       held_at t l (inl e) =
@@ -152,8 +152,7 @@ module _ (D : Type 0) (ops : DomainOps D) (terms : List Term) where
           subst (λ u. ops.is_empty (cell_at ops cells u) ≡ false) (eqb-true (get_or changes j.0 x).0 t j.2) (held j.0 j.1)
       held_at t l (inr e) = subst (λ d. ops.is_empty d ≡ false) (same_cell cells changes t e) (h.held t (omega arith))
 
-      still_at : (s : Step) → IsStep terms s → (tells ops terms s cells ≡ true) ⊎ (tells ops terms s cells ≡ false) → tells ops terms s cells ≡ false
-      still_at s i (inr e) = e
-      still_at s i (inl e) =
+      still_at : (s : Step) → IsStep terms s → tells ops terms s cells ≡ true → tells ops terms s cells ≡ false
+      still_at s i e =
           let j = change_place (λ c. is_near terms c.0 s) changes x (near_change cells changes s i (h.still s i) e) in
           still j.0 j.1 s i j.2

@@ -15,7 +15,7 @@
 //!
 //! `apply_kept` and `set_bit_kept` do what `apply` and `set_bit` do, and keep in a `Trail` what the
 //! cell was, exactly where the answer isn't `No`; `undo` gives exactly the cells and the trail of the
-//! time when the trail had that length (`specs/Trails.antt`). `Watches` lists exactly the nodes that
+//! time when the trail had that length, and `Trail::term` the term of a pair (`specs/Trails.antt`). `Watches` lists exactly the nodes that
 //! use each term (`specs/Watching.antt`). `is_settled_since` is true exactly at settled cells, and
 //! looks only near what changed.
 //!

@@ -29,7 +29,8 @@ impl<D: Domain> Model for Trail<D> {
 }
 
 impl<D: Domain> Trail<D> {
-    ghost use Rattle.std.specs.Prelude.{◌≡◌, [], length, IsOkAnd};
+    ghost use Rattle.std.specs.Prelude.{◌≡◌, ◌<◌, [], length, slice_index, IsOkAnd};
+    ghost use Rattle.dt_box.specs.Trails.{terms_of};
 
     /// A trail without pairs. It takes no memory yet, and so it doesn't fail.
     pub fn new(alloc: Global) -> Result<Trail<D>, NoMemory>
@@ -45,6 +46,14 @@ impl<D: Domain> Trail<D> {
         ensures { result ≡ length self.now }
     {
         self.changes.len() as u64
+    }
+
+    /// The term of the pair at a place, counted from 0.
+    pub fn term(&self, place: u64) -> u32
+        requires { place < length self.now }
+        ensures { result ≡ slice_index (terms_of self.now) place }
+    {
+        self.changes[place as usize].0
     }
 }
 

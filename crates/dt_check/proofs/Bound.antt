@@ -4,8 +4,11 @@ use Rattle.std.specs.Prelude.{MatchOption}
 use Rattle.std.specs.List.{AllByRecursion}
 use Rattle.std.proofs.lemmas.List.{length-map, get_or-map}
 use Rattle.std.proofs.lemmas.Bool.{cases_Bool, cases_lt, cases_eq, true≢false, false≢true}
-use Rattle.std.proofs.lemmas.Nat.{pow_pos, pow_below}
+use Rattle.std.proofs.lemmas.Nat.{pow_pos}
 use Rattle.std.proofs.Math.Nat.{pow-suc}
+use Rattle.dt_lemmas.proofs.Booleans.{or_chosen}
+use Rattle.dt_lemmas.proofs.Lists.{AllByRecursion-split}
+use Rattle.dt_lemmas.proofs.Powers.{wider}
 use Rattle.dt_bits.specs.Bits.{bit, width, IsValue}
 use Rattle.dt_bits.specs.declared.value.Bv.{Bv}
 use Rattle.dt_bits.proofs.BitLemmas.{bit_of_small, bit_of_ones}
@@ -31,13 +34,15 @@ use Rattle.dt_check.specs.Sound.{IsSound}
 use Rattle.dt_check.specs.Records.{trials, IsRecord, unknown_first}
 use Rattle.dt_check.proofs.Decided.{AreChoicesKnown, decided_solves, held_bit}
 
-pub append_parts : {X : Type 0} (P : X → Type 0) (xs ys : List X) → AllByRecursion P (xs ++ ys) → AllByRecursion P xs × AllByRecursion P ys
-append_parts P [] ys h = (tt, h)
-append_parts P (x ∷ xs) ys h = let r = append_parts P xs ys h.1 in ((h.0, r.0), r.1)
-
-pow_le : (a b : ℕ) → a ≤ b → 2 ^ a ≤ 2 ^ b
-pow_le a b l =
-    ⊎_elim (λ (m : a < b). let h = pow_below a b m in omega arith) (λ (m : b ≤ a). let e : a ≡ b = omega arith in subst (λ n. 2 ^ a ≤ 2 ^ n) e (omega arith)) (cases_lt a b)
+-- where the first end that was left is Loose, an end was left
+pub loose_opens : (tree : Tree) → is_loose_first tree ≡ true → is_open tree ≡ true
+unfolding is_open is_loose_first
+loose_opens (forward t rest) f = loose_opens rest f
+loose_opens (backward u k rest) f = loose_opens rest f
+loose_opens (close t) f = absurd (false≢true f)
+loose_opens (loose tries) f = refl
+loose_opens unvisited f = absurd (false≢true f)
+loose_opens (split tries t i zeros ones) f = or_chosen (is_open zeros) (is_open ones) (is_loose_first zeros) (is_loose_first ones) f (loose_opens ones)
 
 -- what two halves give
 halves : (u x y : ℕ) → 1 ≤ u → x + 1 ≤ 2 ^ (u - 1) → y + 1 ≤ 2 ^ (u - 1) → (1 + (x + y)) + 1 ≤ 2 ^ u
@@ -79,7 +84,7 @@ module _ (D : Type 0) (ops : DomainOps D) (laws : DomainLaws ops) where
   pub cases_empty : (cells : List D) → HasNoEmpty ops cells ⊎ HasEmpty cells
   cases_empty cells = cases_below cells (length cells) (omega arith)
 
-  pick_held : (d : D) → ops.IsDomain d → ops.is_empty d ≡ false → Holds ops d (unwrap_or (ops.pick d) 0)
+  pub pick_held : (d : D) → ops.IsDomain d → ops.is_empty d ≡ false → Holds ops d (unwrap_or (ops.pick d) 0)
   pick_held d i e = by_pick (ops.pick d) (laws.pick_held d i)
     where
       by_pick : (o : Option ℕ) → MatchOption o (ops.is_empty d ≡ true) (λ x. Holds ops d x) → Holds ops d (unwrap_or o 0)
@@ -199,7 +204,7 @@ module _ (D : Type 0) (ops : DomainOps D) (laws : DomainLaws ops) where
           → m ≤ 2 ^ unknown_bits ops p.terms (after_step ops p.terms s cells) → m ≤ 2 ^ unknown_bits ops p.terms cells
       step_small s cells m h i n l =
           let k = unknown_le D ops p.terms cells (after_step ops p.terms s cells) (step_keeps_all D ops laws p.terms problem.terms s cells h i n) (choices_of p.terms) in
-          let q = pow_le (unknown_bits ops p.terms (after_step ops p.terms s cells)) (unknown_bits ops p.terms cells) k in
+          let q = wider (unknown_bits ops p.terms (after_step ops p.terms s cells)) (unknown_bits ops p.terms cells) k in
           omega arith
 
       after_small : (rest : Tree) (s : Step) (cells : List D) (o : Bool) → AreCells ops p.terms cells → IsStep p.terms s → IsSound ops p.terms rest (after_step ops p.terms s cells)
@@ -225,7 +230,7 @@ module _ (D : Type 0) (ops : DomainOps D) (laws : DomainLaws ops) where
           ⊎_elim
           (λ (n : HasNoEmpty ops (after_bit ops t i v cells)).
           let k = bit_fewer D ops laws p.terms problem.terms decides t i v cells h u n in
-          let q = pow_le (unknown_bits ops p.terms (after_bit ops t i v cells)) (unknown_bits ops p.terms cells - 1) (omega arith) in
+          let q = wider (unknown_bits ops p.terms (after_bit ops t i v cells)) (unknown_bits ops p.terms cells - 1) (omega arith) in
           let r = ih c n in
           omega arith)
           (λ (e : HasEmpty (after_bit ops t i v cells)).
@@ -244,7 +249,7 @@ module _ (D : Type 0) (ops : DomainOps D) (laws : DomainLaws ops) where
       small (loose tries) cells o h n s a = let q = pow_pos (unknown_bits ops p.terms cells) in omega arith
       small unvisited cells o h n s a = let q = pow_pos (unknown_bits ops p.terms cells) in omega arith
       small (split tries t i zeros ones) cells o h n s a =
-          let parts = append_parts _ (trials ops p.terms zeros (after_bit ops t i false cells) o) (trials ops p.terms ones (after_bit ops t i true cells) (o || is_open zeros)) a.1 in
+          let parts = AllByRecursion-split _ (trials ops p.terms zeros (after_bit ops t i false cells) o) (trials ops p.terms ones (after_bit ops t i true cells) (o || is_open zeros)) a.1 in
           halves (unknown_bits ops p.terms cells) (splits_of zeros) (splits_of ones) (some_unknown D ops laws p.terms problem.terms cells t i s.0)
           (child_small zeros t i false o cells h s.0 s.1 parts.0 (λ c m. small zeros (after_bit ops t i false cells) o c m s.1 parts.0))
           (child_small ones t i true (o || is_open zeros) cells h s.0 s.2 parts.1 (λ c m. small ones (after_bit ops t i true cells) (o || is_open zeros) c m s.2 parts.1))
@@ -276,24 +281,11 @@ module _ (D : Type 0) (ops : DomainOps D) (laws : DomainLaws ops) where
           ⊎_elim
           (λ (n : HasNoEmpty ops (after_bit ops t i v cells)).
           let k = bit_fewer D ops laws p.terms problem.terms decides t i v cells h u n in
-          let q = pow_le (unknown_bits ops p.terms (after_bit ops t i v cells)) (unknown_bits ops p.terms cells - 1) (omega arith) in
+          let q = wider (unknown_bits ops p.terms (after_bit ops t i v cells)) (unknown_bits ops p.terms cells - 1) (omega arith) in
           let x = ih c n (bit_required t i v cells h u n r) in
           omega arith)
           (λ (e : HasEmpty (after_bit ops t i v cells)). absurd (empty_loose tree (after_bit ops t i v cells) c e d a f))
           (cases_empty (after_bit ops t i v cells))
-
-      open_loose : (tree : Tree) → is_loose_first tree ≡ true → is_open tree ≡ true
-      unfolding is_open is_loose_first
-      open_loose (forward t rest) f = open_loose rest f
-      open_loose (backward u k rest) f = open_loose rest f
-      open_loose (close t) f = absurd (false≢true f)
-      open_loose (loose tries) f = refl
-      open_loose unvisited f = absurd (false≢true f)
-      open_loose (split tries t i zeros ones) f = by_open (is_open zeros) (is_open ones) (is_loose_first zeros) (is_loose_first ones) f (open_loose ones)
-        where
-          by_open : (a b c d : Bool) → cond a c d ≡ true → (d ≡ true → b ≡ true) → (a || b) ≡ true
-          by_open true b c d e g = refl
-          by_open false b c d e g = g e
 
       step_less : (rest : Tree) (s : Step) (cells : List D) → AreCells ops p.terms cells → IsStep p.terms s → IsSound ops p.terms rest (after_step ops p.terms s cells)
           → AreFailed (trials ops p.terms rest (after_step ops p.terms s cells) false) → is_loose_first rest ≡ true → AreRequiredKnown ops p cells
@@ -315,7 +307,7 @@ module _ (D : Type 0) (ops : DomainOps D) (laws : DomainLaws ops) where
       less (close t) cells h n r s a f = absurd (false≢true f)
       less (loose tries) cells h n r s a f =
           let u = failed_unknown cells tries h r a.0 in
-          let q = pow_le 1 (unknown_bits ops p.terms cells) u in
+          let q = wider 1 (unknown_bits ops p.terms cells) u in
           omega arith
       less unvisited cells h n r s a f = absurd (false≢true f)
       less (split tries t i zeros ones) cells h n r s a f =
@@ -327,12 +319,12 @@ module _ (D : Type 0) (ops : DomainOps D) (laws : DomainLaws ops) where
               → (AreCells ops p.terms (after_bit ops t i true cells) → HasNoEmpty ops (after_bit ops t i true cells) → AreRequiredKnown ops p (after_bit ops t i true cells) → IsSound ops p.terms ones (after_bit ops t i true cells) → AreFailed (trials ops p.terms ones (after_bit ops t i true cells) false) → is_loose_first ones ≡ true → splits_of ones + 2 ≤ 2 ^ unknown_bits ops p.terms (after_bit ops t i true cells))
               → (1 + (splits_of zeros + splits_of ones)) + 2 ≤ 2 ^ unknown_bits ops p.terms cells
           by_open true e g b ih jh =
-              let parts = append_parts _ (trials ops p.terms zeros (after_bit ops t i false cells) false) (trials ops p.terms ones (after_bit ops t i true cells) (is_open zeros)) b in
+              let parts = AllByRecursion-split _ (trials ops p.terms zeros (after_bit ops t i false cells) false) (trials ops p.terms ones (after_bit ops t i true cells) (is_open zeros)) b in
               halves_less (unknown_bits ops p.terms cells) (splits_of zeros) (splits_of ones) (some_unknown D ops laws p.terms problem.terms cells t i s.0)
               (child_less zeros t i false cells h s.0 s.1 parts.0 g r (λ c m q. ih c m q s.1 parts.0 g))
               (child_small ones t i true (is_open zeros) cells h s.0 s.2 parts.1 (λ c m. small ones (after_bit ops t i true cells) (is_open zeros) c m s.2 parts.1))
           by_open false e g b ih jh =
-              let parts = append_parts _ (trials ops p.terms zeros (after_bit ops t i false cells) false) (trials ops p.terms ones (after_bit ops t i true cells) (is_open zeros)) b in
+              let parts = AllByRecursion-split _ (trials ops p.terms zeros (after_bit ops t i false cells) false) (trials ops p.terms ones (after_bit ops t i true cells) (is_open zeros)) b in
               let last = subst (λ o. AreFailed (trials ops p.terms ones (after_bit ops t i true cells) o)) e parts.1 in
               let x = halves_less (unknown_bits ops p.terms cells) (splits_of ones) (splits_of zeros) (some_unknown D ops laws p.terms problem.terms cells t i s.0)
               (child_less ones t i true cells h s.0 s.2 last g r (λ c m q. jh c m q s.2 last g))
@@ -383,5 +375,5 @@ module _ (D : Type 0) (ops : DomainOps D) (laws : DomainLaws ops) where
       pub record_bound_all : (tree : Tree) (n : ℕ) → IsRecord ops p tree n → n + 2 ≤ 2 ^ bits_of_choices p.terms (choices_of p.terms)
       record_bound_all tree n r =
           let x = record_bound tree n r in
-          let q = pow_le _ _ (unknown_first_most tree (root_cells ops p)) in
+          let q = wider _ _ (unknown_first_most tree (root_cells ops p)) in
           omega arith

@@ -3,6 +3,7 @@ use Rattle.std.proofs.Common.{◌≡◌, ℕ, ◌+◌, ◌<◌, ◌≤◌, true,
 use Rattle.std.specs.Prelude.{All}
 use Rattle.std.proofs.lemmas.List.{length-take-le}
 use Rattle.std.proofs.lemmas.List.Elements.{All-take, All-nil}
+use Rattle.dt_lemmas.proofs.Equalities.{two}
 use Rattle.dt_domain.specs.Domain.{DomainOps}
 use Rattle.dt_terms.specs.declared.term.Term.{Term}
 use Rattle.dt_terms.specs.Problem.{ProblemData}
@@ -25,9 +26,6 @@ use Rattle.dt_check.specs.Waiting.{waiting, Stacked, CanBegin, AtSplits, IsNext,
 use Rattle.dt_check.specs.Checking.{State, state, left, WasSettled, settled_at, UnderBudget, IsSplitAt, IsState, IsTreeEnded, IsFound, step_line}
 use Rattle.dt_check.proofs.Passing.{split_passed, split_trial_passed}
 use Rattle.dt_check.proofs.Waiting.{stacked_more, waiting_kept, turned}
-
-two : {A B C : Type 0} (f : A → B → C) {a x : A} {b y : B} → a ≡ x → b ≡ y → f a b ≡ f x y
-two f p q = cc
 
 module _ (D : Type 0) (ops : DomainOps D) where
   splits_same : (P : List D → Pending → Type 0) (c d : List D) (s t : List (ℕ × D)) (n : ℕ) (qs : List Pending) → Stacked n qs → ((m : ℕ) → m ≤ n → back c s m ≡ back d t m)

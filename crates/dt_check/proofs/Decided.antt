@@ -5,6 +5,7 @@ use Rattle.std.specs.Prelude.{All}
 use Rattle.std.proofs.lemmas.Bool.{cases_lt, false≢true, true≢false, or_parts, eqb-true, eq-eqb, and_from, or_cases, or_left, or_right}
 use Rattle.std.proofs.lemmas.List.{get_or-take}
 use Rattle.std.proofs.lemmas.Nat.{pow_pos}
+use Rattle.dt_lemmas.proofs.Booleans.{and_kept}
 use Rattle.dt_bits.specs.Bits.{bit}
 use Rattle.dt_bits.specs.declared.op.Op.{Op}
 use Rattle.dt_bits.specs.declared.value.Width.{Width}
@@ -37,11 +38,7 @@ module _ (D : Type 0) (ops : DomainOps D) (laws : DomainLaws ops) where
   -- a held number has each known bit
   pub held_bit : (d : D) (x i : ℕ) → ops.IsDomain d → Holds ops d x → bit (ops.known_mask d) i ≡ true → bit x i ≡ bit (ops.known_value d) i
   held_bit d x i h k e =
-      sym (and_true (bit x i) (bit (ops.known_mask d) i) e) ∙ sym (bit_of_and x (ops.known_mask d) i) ∙ ap (λ n. bit n i) (laws.held_agrees d x h k)
-    where
-      and_true : (a b : Bool) → b ≡ true → (a && b) ≡ a
-      and_true true b e = e
-      and_true false b e = refl
+      sym (and_kept (bit x i) (bit (ops.known_mask d) i) e) ∙ sym (bit_of_and x (ops.known_mask d) i) ∙ ap (λ n. bit n i) (laws.held_agrees d x h k)
 
   -- a cell and what is told of it, where nothing new is told and all bits are told
   pub record AreJoined (w : ℕ) (cell told : D) : Type 0 where

@@ -1,24 +1,23 @@
 -- Values that are in line are those of the assignment, and a value that changes puts only users out of line.
-use Rattle.std.proofs.Common.{◌≡◌, ◌≢◌, ℕ, zero, suc, ◌+◌, ◌^◌, ◌<◌, ◌≤◌, Bool, true, false, ◌&&◌, ◌||◌, ltb, eqb, ◌⊎◌, inl, inr, ⊎_elim, List, [], ◌∷◌, ◌++◌, length, take, get_or, set, refl, sym, ap, ◌∙◌, subst, arith, length-set, get_or-set_same, get_or-set_other, get_or-take}
+use Rattle.std.proofs.Common.{◌≡◌, ◌≢◌, ℕ, zero, suc, ◌+◌, ◌^◌, ◌<◌, ◌≤◌, Bool, true, false, ◌&&◌, ◌||◌, ltb, eqb, ◌⊎◌, inl, inr, ⊎_elim, List, [], ◌∷◌, ◌++◌, length, map, take, get_or, set, refl, sym, ap, ◌∙◌, subst, arith, length-set, get_or-set_same, get_or-set_other, get_or-take}
 use Rattle.std.specs.Prelude.{replicate}
 use Rattle.std.specs.List.{list_any, range_with_len}
 use Rattle.std.proofs.lemmas.Nat.{pow_pos}
-use Rattle.std.proofs.lemmas.Bool.{cases_eq, cases_lt, cases_Bool, eqb-true, ltb-true, false≢true, or_cases, and_parts, lt-ltb, eq-eqb, or_left, or_right, and_from}
-use Rattle.std.proofs.lemmas.List.{get_or_default, take_more, length-replicate, get_or-replicate}
+use Rattle.std.proofs.lemmas.Bool.{cases_eq, cases_Bool, eqb-true, ltb-true, false≢true, or_cases, and_parts, lt-ltb, eq-eqb, or_left, or_right, and_from}
+use Rattle.std.proofs.lemmas.List.{get_or_default, get_or-map, take_more, length-replicate, get_or-replicate}
 use Rattle.std.proofs.lemmas.List.Elements.{filter_passes}
 use Rattle.std.proofs.Math.Seq.{take-length}
-use Rattle.dt_bits.specs.Bits.{width}
+use Rattle.dt_lemmas.proofs.Equalities.{two}
 use Rattle.dt_bits.specs.Ops.{arity_of, value_of}
 use Rattle.dt_bits.specs.declared.op.Op.{Op}
-use Rattle.dt_bits.specs.declared.value.Bv.{Bv}
 use Rattle.dt_bits.specs.declared.value.Width.{Width}
 use Rattle.dt_bits.proofs.Operators.{value_used}
 use Rattle.dt_terms.specs.declared.term.Term.{Term}
 use Rattle.dt_terms.specs.declared.term.Term.TheVariants.{Choice, Node}
-use Rattle.dt_terms.specs.Terms.{width_of_term, is_choice, term_at, bits_at, AreTerms, choices_of, choice_at}
+use Rattle.dt_terms.specs.Terms.{is_choice, term_at, bits_at, AreTerms, choices_of, choice_at}
 use Rattle.dt_terms.specs.Values.{IsAssignment, AreFit, bv_at, value_of_term, first_values, values_of}
 use Rattle.dt_terms.proofs.Choices.{choice_there, choice_stands}
-use Rattle.dt_terms.proofs.Placed.{IsPlaced, placed}
+use Rattle.dt_terms.proofs.Placed.{placed}
 use Rattle.dt_terms.proofs.Valued.{first_values-none, first_values-next, length-values_of, values_fit, value_is}
 use Rattle.dt_box.specs.Neighbours.{uses}
 use Rattle.dt_box.specs.Steps.{IsNodeTerm}
@@ -26,7 +25,7 @@ use Rattle.dt_box.specs.declared.step.Step.TheVariants.{Forward}
 use Rattle.dt_box.specs.Watching.{users_of}
 use Rattle.dt_box.proofs.Watching.{near_origin, place_of, user_in}
 use Rattle.dt_check.specs.Marks.{AreMarked, HasNone}
-use Rattle.dt_check.specs.Evaluating.{value_among, IsInLine, IsSeenTo, AreValues, AreSeenTo, AreSeenToBut, AreNumbers}
+use Rattle.dt_check.specs.Evaluating.{value_among, IsInLine, IsSeenTo, AreValues, AreSeenTo, AreSeenToBut, numbers_of}
 
 -- a value, of equal bits
 same_bv : (terms : List Term) (xs ys : List ℕ) (t : ℕ) → get_or xs t 0 ≡ get_or ys t 0 → bv_at terms xs t ≡ bv_at terms ys t
@@ -208,26 +207,32 @@ none_before marks u n l h m = either (cases_eq n u)
     either (inl e) = ap (λ k. get_or (set marks u false) k false) e ∙ get_or-set_same marks u false false l
     either (inr d) = get_or-set_other marks u n false false d ∙ h n (omega arith) (omega (arith, d))
 
--- one more choice gets its number
-pub numbers_more : (terms : List Term) (numbers values : List ℕ) (k u v : ℕ) → length values ≡ length terms → k < length (choices_of terms) → u ≡ get_or (choices_of terms) k 0 → v ≡ get_or numbers k 0
-    → AreNumbers terms numbers values k → AreNumbers terms numbers (set values u v) (k + 1)
-numbers_more terms numbers values k u v n l e f h j m = either (cases_eq j k)
-  where
-    s : (get_or (choices_of terms) k 0 < length terms) × (is_choice (term_at terms (get_or (choices_of terms) k 0)) ≡ true) × (choice_at terms (get_or (choices_of terms) k 0) ≡ k)
-    s = choice_stands terms k l
+-- functions that agree on the elements
+pub map_same : (f g : ℕ → ℕ) (xs : List ℕ) → ((k : ℕ) → k < length xs → f (get_or xs k 0) ≡ g (get_or xs k 0)) → map f xs ≡ map g xs
+map_same f g [] h = refl
+map_same f g (x ∷ xs) h = two (λ y ys. y ∷ ys) (h zero (omega arith)) (map_same f g xs (λ k l. h (suc k) (omega arith)))
 
-    either : (j ≡ k) ⊎ (j ≡ k → ⊥) → get_or (set values u v) (get_or (choices_of terms) j 0) 0 ≡ get_or numbers j 0
-    either (inl g) =
-        ap (λ i. get_or (set values u v) (get_or (choices_of terms) i 0) 0) g
-        ∙ ap (λ t. get_or (set values u v) t 0) (sym e)
-        ∙ get_or-set_same values u v 0 (omega (arith, e, n, s.0))
-        ∙ f
-        ∙ ap (λ i. get_or numbers i 0) (sym g)
-    either (inr d) =
-        let i : j < k = omega (arith, d) in
-        let r = choice_stands terms j (omega arith) in
-        get_or-set_other values u (get_or (choices_of terms) j 0) v 0 (λ g. absurd (d (sym r.2 ∙ ap (choice_at terms) (g ∙ e) ∙ s.2)))
-        ∙ h j i
+-- and that agree on all but one
+map_changed : (f g : ℕ → ℕ) (xs : List ℕ) (k v : ℕ) → k < length xs → g (get_or xs k 0) ≡ v → ((j : ℕ) → j < length xs → j ≢ k → g (get_or xs j 0) ≡ f (get_or xs j 0)) → map g xs ≡ set (map f xs) k v
+map_changed f g [] k v l e h = absurd (omega arith)
+map_changed f g (x ∷ xs) zero v l e h = two (λ y ys. y ∷ ys) e (map_same g f xs (λ j m. h (suc j) (omega arith) (λ n. absurd (omega arith))))
+map_changed f g (x ∷ xs) (suc k) v l e h =
+    two (λ y ys. y ∷ ys) (h zero (omega arith) (λ n. absurd (omega arith))) (map_changed f g xs k v (omega arith) e (λ j m d. h (suc j) (omega arith) (λ n. absurd (d (omega arith)))))
+
+-- the numbers stay where the choices' values do
+pub numbers_same : (terms : List Term) (values others : List ℕ) → ((t : ℕ) → is_choice (term_at terms t) ≡ true → get_or values t 0 ≡ get_or others t 0) → numbers_of terms values ≡ numbers_of terms others
+numbers_same terms values others h = map_same (λ t. get_or values t 0) (λ t. get_or others t 0) (choices_of terms) (λ k l. h (get_or (choices_of terms) k 0) (choice_stands terms k l).1)
+
+-- and one changes where a choice gets another value
+pub numbers_set : (terms : List Term) (values : List ℕ) (k u v : ℕ) → length values ≡ length terms → k < length (choices_of terms) → u ≡ get_or (choices_of terms) k 0
+    → numbers_of terms (set values u v) ≡ set (numbers_of terms values) k v
+numbers_set terms values k u v n l e =
+    let s = choice_stands terms k l in
+    map_changed (λ t. get_or values t 0) (λ t. get_or (set values u v) t 0) (choices_of terms) k v l
+    (ap (λ t. get_or (set values u v) t 0) (sym e) ∙ get_or-set_same values u v 0 (omega (arith, e, n, s.0)))
+    (λ j m d.
+    get_or-set_other values u (get_or (choices_of terms) j 0) v 0
+    (λ g. absurd (d (sym (choice_stands terms j m).2 ∙ ap (choice_at terms) (g ∙ e) ∙ s.2))))
 
 -- ---- values in line are those of the assignment
 module _ (terms : List Term) (right : AreTerms terms) where
@@ -245,30 +250,29 @@ module _ (terms : List Term) (right : AreTerms terms) where
           (λ m. sym (get_or-take t values b 0 (p.b_before m)))
           (λ m. sym (get_or-take t values c 0 (p.c_before m)))
 
-  -- the value of a choice, where each choice has its number
-  number_at : (values numbers : List ℕ) → AreNumbers terms numbers values (length (choices_of terms)) → (t : ℕ) → t < length terms → is_choice (term_at terms t) ≡ true
-      → get_or values t 0 ≡ get_or numbers (choice_at terms t) 0
-  number_at values numbers h t l e =
+  -- the value of a choice
+  number_at : (values : List ℕ) (t : ℕ) → t < length terms → is_choice (term_at terms t) ≡ true → get_or values t 0 ≡ get_or (numbers_of terms values) (choice_at terms t) 0
+  number_at values t l e =
       let p = choice_there terms t l e in
-      subst (λ u. get_or values u 0 ≡ get_or numbers (choice_at terms t) 0) p.1 (h (choice_at terms t) p.0)
+      sym (get_or-map (λ u. get_or values u 0) (choices_of terms) (choice_at terms t) 0 0 p.0 ∙ ap (λ u. get_or values u 0) p.1)
 
-  first_in_line : (values numbers : List ℕ) → length values ≡ length terms → ((t : ℕ) → t < length terms → IsInLine terms values t) → AreNumbers terms numbers values (length (choices_of terms))
-      → (t : ℕ) → t ≤ length terms → take t values ≡ first_values terms numbers t
-  first_in_line values numbers n h c zero l = sym (first_values-none terms numbers)
-  first_in_line values numbers n h c (suc t) l =
+  first_in_line : (values : List ℕ) → length values ≡ length terms → ((t : ℕ) → t < length terms → IsInLine terms values t)
+      → (t : ℕ) → t ≤ length terms → take t values ≡ first_values terms (numbers_of terms values) t
+  first_in_line values n h zero l = sym (first_values-none terms (numbers_of terms values))
+  first_in_line values n h (suc t) l =
+      let numbers = numbers_of terms values in
       let e : t + 1 ≡ suc t = omega arith in
-      let r = first_in_line values numbers n h c t (omega arith) in
+      let r = first_in_line values n h t (omega arith) in
       let m : t < length terms = omega arith in
       ap (λ k. take k values) (sym e)
       ∙ take_more values t 0 (omega (arith, n))
-      ∙ ap (λ x. take t values ++ x ∷ []) (h t m ∙ early values numbers t m (number_at values numbers c t m))
+      ∙ ap (λ x. take t values ++ x ∷ []) (h t m ∙ early values numbers t m (number_at values t m))
       ∙ ap (λ (xs : List ℕ). xs ++ value_of_term terms numbers xs t (term_at terms t) ∷ []) r
       ∙ sym (first_values-next terms numbers t)
 
-  pub values_in_line : (values numbers : List ℕ) → length values ≡ length terms → ((t : ℕ) → t < length terms → IsInLine terms values t) → AreNumbers terms numbers values (length (choices_of terms))
-      → values ≡ values_of terms numbers
-  values_in_line values numbers n h c =
-      subst (λ k. values ≡ take k values) n (sym (take-length values)) ∙ first_in_line values numbers n h c (length terms) (omega arith)
+  pub values_in_line : (values : List ℕ) → length values ≡ length terms → ((t : ℕ) → t < length terms → IsInLine terms values t) → values ≡ values_of terms (numbers_of terms values)
+  values_in_line values n h =
+      subst (λ k. values ≡ take k values) n (sym (take-length values)) ∙ first_in_line values n h (length terms) (omega arith)
 
   -- and those of an assignment are in line
   pub in_line_first : (numbers : List ℕ) (t : ℕ) → t < length terms → IsInLine terms (values_of terms numbers) t

@@ -10,5 +10,6 @@ pub mod Along
 pub mod Sweeping
 pub mod Overwriting
 pub mod Evaluating
+pub mod Trying
 pub mod Checking
 pub mod Loop

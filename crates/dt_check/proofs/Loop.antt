@@ -2,6 +2,7 @@
 use Rattle.std.proofs.Common.{◌≡◌, ℕ, suc, ◌+◌, ◌<◌, ◌≤◌, Bool, true, false, ◌&&◌, cond, eqb, List, [], ◌∷◌, length, get_or, drop, drop-cons, Option, Some, None, refl, sym, ap, ◌∙◌, subst, arith}
 use Rattle.std.proofs.lemmas.Bool.{false≢true}
 use Rattle.std.proofs.Math.ListN.{drop_of_length-le}
+use Rattle.dt_lemmas.proofs.Equalities.{two}
 use Rattle.dt_domain.specs.Domain.{DomainOps, DomainLaws}
 use Rattle.dt_terms.specs.declared.term.Term.{Term}
 use Rattle.dt_terms.specs.Problem.{ProblemData, IsProblem}
@@ -22,9 +23,6 @@ use Rattle.dt_check.specs.Reading.{Reading, after_line, cause_of, end_verdict, r
 use Rattle.dt_check.specs.Laws.{Refutation, Record}
 use Rattle.dt_check.proofs.Refuted.{none_solves}
 use Rattle.dt_check.proofs.Verdicts.{closed_refutes, refutes_closed, unfinished_record, record_unfinished}
-
-two : {A B C : Type 0} (f : A → B → C) {a x : A} {b y : B} → a ≡ x → b ≡ y → f a b ≡ f x y
-two f p q = cc
 
 -- the lines that are left are as many trees
 abbrev pub Owed : ℕ → List Line → Type 0

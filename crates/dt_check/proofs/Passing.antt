@@ -3,6 +3,7 @@ use Rattle.std.proofs.Common.{◌≡◌, ℕ, ◌+◌, Bool, true, false, not, �
 use Rattle.std.specs.List.{list_all}
 use Rattle.std.proofs.lemmas.Bool.{ltb-true, lt-ltb, false≢true, not-true}
 use Rattle.std.proofs.lemmas.List.{append-nil}
+use Rattle.dt_lemmas.proofs.Equalities.{two}
 use Rattle.dt_bits.specs.Bits.{bit}
 use Rattle.dt_domain.specs.Domain.{DomainOps}
 use Rattle.dt_terms.specs.Terms.{term_at, bits_at, is_choice}
@@ -33,9 +34,6 @@ unless_parts cause false o e = absurd (cc)
 unless_from : (cause : Cause) (b : Bool) (o : Option Cause) → b ≡ true → o ≡ None → cond b o (Some cause) ≡ None
 unless_from cause true o e f = f
 unless_from cause false o e f = absurd (false≢true e)
-
-two : {A B C : Type 0} (f : A → B → C) {a x : A} {b y : B} → a ≡ x → b ≡ y → f a b ≡ f x y
-two f p q = cc
 
 or_false : (b : Bool) → (b || false) ≡ b
 or_false true = refl

@@ -2,25 +2,21 @@
 use Rattle.std.specs.Prelude.{◌≡◌, ℕ, ◌<◌, ◌≤◌, Bool, true, Option, Some, None, List, [], ◌∷◌, ◌++◌, length, reverse, All}
 use Rattle.dt_domain.specs.Domain.{DomainOps}
 use Rattle.dt_terms.specs.declared.term.Term.{Term}
-use Rattle.dt_terms.specs.Terms.{choices_of}
 use Rattle.dt_terms.specs.Problem.{ProblemData}
 use Rattle.dt_box.specs.Cells.{AreCells}
 use Rattle.dt_box.specs.Stillness.{IsSettled}
 use Rattle.dt_box.specs.declared.step.Step.{Step}
 use Rattle.dt_box.specs.declared.step.Step.TheVariants as steps
 use Rattle.dt_box.specs.Trails.{back}
-use Rattle.dt_box.specs.Watching.{watches_of}
 use Rattle.dt_log.specs.declared.line.Line.{Line}
 use Rattle.dt_log.specs.declared.line.Line.TheVariants.{Forward, Backward, Try, Split, Close, Loose, Unvisited}
 use Rattle.dt_log.specs.declared.line.Claim.{Claim}
 use Rattle.dt_log.specs.declared.line.Claim.TheVariants.{Impossible, Budget}
 use Rattle.dt_check.specs.declared.pending.Pending.{Pending}
-use Rattle.dt_check.specs.declared.trial.Trial.{Trial}
 use Rattle.dt_check.specs.declared.checker.Checker.{Checker}
 use Rattle.dt_check.specs.declared.checker.Finding.{Finding}
 use Rattle.dt_check.specs.declared.checker.Finding.TheVariants.{Passed, Ended, Refused}
 use Rattle.dt_check.specs.Reading.{Reading, reading, after_line, cause_of}
-use Rattle.dt_check.specs.Evaluating.{IsEvaluated}
 use Rattle.dt_check.specs.Waiting.{waiting, Stacked, CanBegin, AtSplits}
 
 -- the cells of the tree that is read, what they were before, the right trees that wait, the latest split
@@ -120,9 +116,3 @@ IsFound ops p claim line tries old Ended new =
     × ((after_line ops p.terms line (reading_at ops old tries)).stack ≡ [])
     × (new.splits ≡ (after_line ops p.terms line (reading_at ops old tries)).splits)
     × (new.opened ≡ (after_line ops p.terms line (reading_at ops old tries)).opened)
-
--- it was made to try assignments of the choices of these terms, whose values it keeps up
-pub record HasRoom (terms : List Term) (trial : Trial) : Type 0 where
-  pub watches : trial.watches ≡ watches_of terms
-  pub numbers : length trial.numbers.items ≡ length (choices_of terms)
-  pub evaluated : IsEvaluated terms trial.evaluation

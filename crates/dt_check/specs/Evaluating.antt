@@ -1,5 +1,5 @@
 -- Values of terms that are kept up as the numbers of choices change.
-use Rattle.std.specs.Prelude.{◌≡◌, ◌≢◌, ℕ, ◌<◌, Bool, true, false, ◌⊎◌, List, length, slice_index, slice_index_or}
+use Rattle.std.specs.Prelude.{◌≡◌, ◌≢◌, ℕ, ◌<◌, Bool, true, false, ◌⊎◌, List, length, map, slice_index, slice_index_or}
 use Rattle.dt_bits.specs.Ops.{value_of}
 use Rattle.dt_terms.specs.declared.term.Term.{Term}
 use Rattle.dt_terms.specs.declared.term.Term.TheVariants.{Choice, Node}
@@ -45,7 +45,6 @@ pub record IsEvaluated (terms : List Term) (e : Evaluation) : Type 0 where
   pub in_line : (t : ℕ) → t < length terms → IsInLine terms e.values.items t
   pub unmarked : HasNone e.marks.marks.items 0 (length terms)
 
--- each of the first n choices has its number as its value
-abbrev pub AreNumbers : List Term → List ℕ → List ℕ → ℕ → Type 0
-AreNumbers terms numbers values n =
-    (k : ℕ) → k < n → slice_index values (slice_index (choices_of terms) k) ≡ slice_index numbers k
+-- the numbers that the choices have as their values
+abbrev pub numbers_of : List Term → List ℕ → List ℕ
+numbers_of terms values = map (slice_index values) (choices_of terms)

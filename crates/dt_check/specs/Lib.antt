@@ -9,5 +9,7 @@ pub mod Laws
 pub mod Along
 pub mod Marks
 pub mod Evaluating
+pub mod Noting
+pub mod Trying
 pub mod Checking
 pub mod Words

@@ -49,14 +49,16 @@ pub(crate) struct Checker<D: Domain> {
 }
 
 impl<D: Domain> Checker<D> {
-    ghost use Rattle.std.specs.Prelude.{◌≡◌, ◌+◌, ◌^◌, ◌<◌, ◌≤◌, [], None, All, IfOk, length, true};
+    ghost use Rattle.std.specs.Prelude.{◌≡◌, ◌+◌, ◌^◌, ◌<◌, ◌≤◌, [], None, All, IfOk, OnOk, length, true};
     ghost use Rattle.dt_terms.specs.Terms.{choices_of};
     ghost use Rattle.dt_box.specs.declared.step.Step.{Step};
     ghost use Rattle.dt_log.specs.declared.line.Claim.{Claim};
     ghost use Rattle.dt_log.specs.declared.line.Line.TheVariants.{Try, Split, Close, Loose, Unvisited};
     ghost use Rattle.dt_box.specs.Cells.{AreCells};
     ghost use Rattle.dt_check.specs.Reading.{at_first, trial_cause, split_cause, split_trial, loose_cause};
-    ghost use Rattle.dt_check.specs.Checking.{state_of, left, reading_at, WasSettled, IsState, IsTreeEnded, IsFound, step_line, HasRoom};
+    ghost use Rattle.dt_check.specs.Checking.{state_of, left, reading_at, WasSettled, IsState, IsTreeEnded, IsFound, step_line};
+    ghost use Rattle.dt_check.specs.Trying.{IsTrial};
+    ghost use Rattle.dt_box.specs.Trails.{IsKept};
 
     /// The checker before the first item, at the root cells.
     pub(crate) fn new(alloc: Global, problem: &Problem) -> Result<Checker<D>, NoMemory>
@@ -98,6 +100,7 @@ impl<D: Domain> Checker<D> {
         requires state { IsState D.ops problem.now.terms claim (state_of self.old) }
         ensures found { IfOk result (λ finding. IsFound D.ops problem.now claim (step_line step) [] (state_of self.old) finding (state_of self.new)) }
         ensures splits { self.new.splits ≡ self.old.splits }
+        ensures kept { OnOk result (IsKept self.old.cells self.old.trail self.new.cells self.new.trail) }
     {
         match step_cause(problem, step) {
             Some(cause) => Ok(Finding::Refused(cause)),
@@ -109,12 +112,25 @@ impl<D: Domain> Checker<D> {
     }
 
     // Ends the tree that is read, and begins the one that waited first, if any did.
-    fn end_tree(&mut self, problem: &Problem, claim: Claim) -> Result<Finding, NoMemory>
+    fn end_tree(
+        &mut self,
+        problem: &Problem,
+        trial: &mut Trial,
+        claim: Claim,
+    ) -> Result<Finding, NoMemory>
         requires state { IsState D.ops problem.now.terms claim (state_of self.old) }
+        requires trial { IsTrial D.ops problem.now.terms self.old.cells self.old.trail trial.old }
         ensures ended { IfOk result (λ finding. IsTreeEnded D.ops problem.now.terms claim (state_of self.old) finding (state_of self.new)) }
         ensures splits { self.new.splits ≡ self.old.splits }
+        ensures trial { OnOk result (IsTrial D.ops problem.now.terms self.new.cells self.new.trail trial.new) }
     {
-        match next_tree(problem, &mut self.cells, &mut self.trail, &mut self.pending)? {
+        match next_tree(
+            problem,
+            &mut self.cells,
+            &mut self.trail,
+            &mut self.pending,
+            trial,
+        )? {
             None => Ok(Finding::Ended),
             Some(split) => {
                 self.settled = settled_at(claim, split.length);
@@ -127,16 +143,19 @@ impl<D: Domain> Checker<D> {
     fn read_close(
         &mut self,
         problem: &Problem,
+        trial: &mut Trial,
         claim: Claim,
         term: u32,
     ) -> Result<Finding, NoMemory>
         requires state { IsState D.ops problem.now.terms claim (state_of self.old) }
+        requires trial { IsTrial D.ops problem.now.terms self.old.cells self.old.trail trial.old }
         ensures found { IfOk result (λ finding. IsFound D.ops problem.now claim (Close term) [] (state_of self.old) finding (state_of self.new)) }
         ensures splits { self.new.splits ≡ self.old.splits }
+        ensures trial { OnOk result (IsTrial D.ops problem.now.terms self.new.cells self.new.trail trial.new) }
     {
         match close_cause(problem, &self.cells, term) {
             Some(cause) => Ok(Finding::Refused(cause)),
-            None => self.end_tree(problem, claim),
+            None => self.end_tree(problem, trial, claim),
         }
     }
 
@@ -150,9 +169,9 @@ impl<D: Domain> Checker<D> {
         requires cells { AreCells D.ops problem.now.terms self.now.cells }
         requires within { All (λ change. change.0 < length self.now.cells) self.now.trail }
         requires settled { WasSettled D.ops problem.now.terms self.now.cells self.now.trail self.now.settled }
-        requires room { HasRoom problem.now.terms trial.old }
+        requires trial { IsTrial D.ops problem.now.terms self.now.cells self.now.trail trial.old }
         ensures cause { result ≡ trial_cause D.ops problem.now self.now.cells tries.now }
-        ensures room { HasRoom problem.now.terms trial.new }
+        ensures trial { IsTrial D.ops problem.now.terms self.now.cells self.now.trail trial.new }
     {
         let watches = trial.watches();
         if !is_settled_now(problem, watches, &self.cells, &self.trail, self.settled) {
@@ -161,7 +180,7 @@ impl<D: Domain> Checker<D> {
         if !hold_tries(problem, &self.cells, tries) {
             return Some(Cause::TriedOutside);
         }
-        if trial.solves(problem, &self.cells, tries) {
+        if trial.solves(problem, &self.cells, &self.trail, tries) {
             return Some(Cause::TriedSolves);
         }
         None
@@ -180,9 +199,9 @@ impl<D: Domain> Checker<D> {
         requires cells { AreCells D.ops problem.now.terms self.now.cells }
         requires within { All (λ change. change.0 < length self.now.cells) self.now.trail }
         requires settled { WasSettled D.ops problem.now.terms self.now.cells self.now.trail self.now.settled }
-        requires room { HasRoom problem.now.terms trial.old }
+        requires trial { IsTrial D.ops problem.now.terms self.now.cells self.now.trail trial.old }
         ensures cause { result ≡ split_cause D.ops problem.now.terms self.now.cells term bit (split_trial D.ops problem.now claim self.now.cells tries.now) }
-        ensures room { HasRoom problem.now.terms trial.new }
+        ensures trial { IsTrial D.ops problem.now.terms self.now.cells self.now.trail trial.new }
     {
         match bit_cause(problem, &self.cells, term, bit) {
             Some(cause) => Some(cause),
@@ -205,10 +224,10 @@ impl<D: Domain> Checker<D> {
     ) -> Result<Finding, NoMemory>
         requires state { IsState D.ops problem.now.terms claim (state_of self.old) }
         requires splits { self.old.splits + 1 < 2 ^ 64 }
-        requires room { HasRoom problem.now.terms trial.old }
+        requires trial { IsTrial D.ops problem.now.terms self.old.cells self.old.trail trial.old }
         ensures found { IfOk result (λ finding. IsFound D.ops problem.now claim (Split term bit) tries.now (state_of self.old) finding (state_of self.new)) }
         ensures splits { self.new.splits ≤ self.old.splits + 1 }
-        ensures room { HasRoom problem.now.terms trial.new }
+        ensures trial { OnOk result (IsTrial D.ops problem.now.terms self.new.cells self.new.trail trial.new) }
     {
         match self.split_cause(problem, trial, claim, tries, term, bit) {
             Some(cause) => Ok(Finding::Refused(cause)),
@@ -229,13 +248,20 @@ impl<D: Domain> Checker<D> {
     }
 
     // Ends the tree that is read with an end that was left.
-    fn leave_tree(&mut self, problem: &Problem, claim: Claim) -> Result<Finding, NoMemory>
+    fn leave_tree(
+        &mut self,
+        problem: &Problem,
+        trial: &mut Trial,
+        claim: Claim,
+    ) -> Result<Finding, NoMemory>
         requires state { IsState D.ops problem.now.terms claim (state_of self.old) }
+        requires trial { IsTrial D.ops problem.now.terms self.old.cells self.old.trail trial.old }
         ensures ended { IfOk result (λ finding. IsTreeEnded D.ops problem.now.terms claim (left (state_of self.old)) finding (state_of self.new)) }
         ensures splits { self.new.splits ≡ self.old.splits }
+        ensures trial { OnOk result (IsTrial D.ops problem.now.terms self.new.cells self.new.trail trial.new) }
     {
         self.opened = true;
-        self.end_tree(problem, claim)
+        self.end_tree(problem, trial, claim)
     }
 
     // Why a Loose item is refused.
@@ -249,9 +275,9 @@ impl<D: Domain> Checker<D> {
         requires cells { AreCells D.ops problem.now.terms self.now.cells }
         requires within { All (λ change. change.0 < length self.now.cells) self.now.trail }
         requires settled { WasSettled D.ops problem.now.terms self.now.cells self.now.trail self.now.settled }
-        requires room { HasRoom problem.now.terms trial.old }
+        requires trial { IsTrial D.ops problem.now.terms self.now.cells self.now.trail trial.old }
         ensures cause { result ≡ loose_cause D.ops problem.now claim self.now.opened self.now.cells tries.now }
-        ensures room { HasRoom problem.now.terms trial.new }
+        ensures trial { IsTrial D.ops problem.now.terms self.now.cells self.now.trail trial.new }
     {
         match claim {
             Claim::Impossible => Some(Cause::WrongClaim),
@@ -272,26 +298,33 @@ impl<D: Domain> Checker<D> {
         tries: &[(u32, u128)],
     ) -> Result<Finding, NoMemory>
         requires state { IsState D.ops problem.now.terms claim (state_of self.old) }
-        requires room { HasRoom problem.now.terms trial.old }
+        requires trial { IsTrial D.ops problem.now.terms self.old.cells self.old.trail trial.old }
         ensures found { IfOk result (λ finding. IsFound D.ops problem.now claim Loose tries.now (state_of self.old) finding (state_of self.new)) }
         ensures splits { self.new.splits ≡ self.old.splits }
-        ensures room { HasRoom problem.now.terms trial.new }
+        ensures trial { OnOk result (IsTrial D.ops problem.now.terms self.new.cells self.new.trail trial.new) }
     {
         match self.loose_cause(problem, trial, claim, tries) {
             Some(cause) => Ok(Finding::Refused(cause)),
-            None => self.leave_tree(problem, claim),
+            None => self.leave_tree(problem, trial, claim),
         }
     }
 
     // What is found at an Unvisited item.
-    fn read_unvisited(&mut self, problem: &Problem, claim: Claim) -> Result<Finding, NoMemory>
+    fn read_unvisited(
+        &mut self,
+        problem: &Problem,
+        trial: &mut Trial,
+        claim: Claim,
+    ) -> Result<Finding, NoMemory>
         requires state { IsState D.ops problem.now.terms claim (state_of self.old) }
+        requires trial { IsTrial D.ops problem.now.terms self.old.cells self.old.trail trial.old }
         ensures found { IfOk result (λ finding. IsFound D.ops problem.now claim Unvisited [] (state_of self.old) finding (state_of self.new)) }
         ensures splits { self.new.splits ≡ self.old.splits }
+        ensures trial { OnOk result (IsTrial D.ops problem.now.terms self.new.cells self.new.trail trial.new) }
     {
         match unvisited_cause(claim, self.opened) {
             Some(cause) => Ok(Finding::Refused(cause)),
-            None => self.leave_tree(problem, claim),
+            None => self.leave_tree(problem, trial, claim),
         }
     }
 
@@ -306,10 +339,10 @@ impl<D: Domain> Checker<D> {
     ) -> Result<Finding, NoMemory>
         requires state { IsState D.ops problem.now.terms claim (state_of self.old) }
         requires splits { self.old.splits + 1 < 2 ^ 64 }
-        requires room { HasRoom problem.now.terms trial.old }
+        requires trial { IsTrial D.ops problem.now.terms self.old.cells self.old.trail trial.old }
         ensures found { IfOk result (λ finding. IsFound D.ops problem.now claim line tries.now (state_of self.old) finding (state_of self.new)) }
         ensures splits { self.new.splits ≤ self.old.splits + 1 }
-        ensures room { HasRoom problem.now.terms trial.new }
+        ensures trial { OnOk result (IsTrial D.ops problem.now.terms self.new.cells self.new.trail trial.new) }
     {
         match line {
             Line::Forward { term } => self.read_step(problem, claim, Step::Forward { term }),
@@ -318,9 +351,9 @@ impl<D: Domain> Checker<D> {
             }
             Line::Try { .. } => Ok(Finding::Passed),
             Line::Split { term, bit } => self.read_split(problem, trial, claim, tries, term, bit),
-            Line::Close { term } => self.read_close(problem, claim, term),
+            Line::Close { term } => self.read_close(problem, trial, claim, term),
             Line::Loose => self.read_loose(problem, trial, claim, tries),
-            Line::Unvisited => self.read_unvisited(problem, claim),
+            Line::Unvisited => self.read_unvisited(problem, trial, claim),
         }
     }
 }

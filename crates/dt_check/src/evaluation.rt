@@ -60,8 +60,8 @@ fn first_values(alloc: Global, problem: &Problem) -> Result<Vec<u128>, NoMemory>
     Ok(values)
 }
 
-/// The values of a problem's terms under numbers of its choices. For further numbers only those terms
-/// are evaluated again that use a term whose value changes.
+/// The values of a problem's terms under numbers of its choices. Where choices get other numbers, only
+/// those terms are evaluated again that use a term whose value changes.
 #[derive(Drop)]
 pub struct Evaluation {
     values: Vec<u128>,
@@ -72,10 +72,10 @@ pub struct Evaluation {
 impl Evaluation {
     ghost use Rattle.std.specs.Prelude.{◌≡◌, ℕ, ◌+◌, ◌≤◌, ◌<◌, ◌^◌, length, slice_index, slice_index_or, slice_set, false, IsTrue, IfOk};
     ghost use Rattle.dt_terms.specs.Terms.{AreTerms, bits_at, term_at, choices_of, is_choice};
-    ghost use Rattle.dt_terms.specs.Values.{IsAssignment, solves, values_of};
+    ghost use Rattle.dt_terms.specs.Values.{solves, values_of};
     ghost use Rattle.dt_box.specs.Watching.{watches_of};
     ghost use Rattle.dt_check.specs.Marks.{HasNone};
-    ghost use Rattle.dt_check.specs.Evaluating.{AreSeenTo, AreSeenToBut, IsEvaluated, AreNumbers};
+    ghost use Rattle.dt_check.specs.Evaluating.{AreSeenTo, AreSeenToBut, IsEvaluated, numbers_of};
 
     /// The values where each choice has the number 0. It goes once over the terms.
     pub fn new(alloc: Global, problem: &Problem) -> Result<Evaluation, NoMemory>
@@ -104,20 +104,18 @@ impl Evaluation {
         }
     }
 
-    // Gives each choice its number.
-    fn set_numbers(&mut self, problem: &Problem, watches: &Watches, numbers: &[u128])
+    /// Gives a choice a number. It takes no memory, and marks the users of the choice where it had another
+    /// number.
+    pub fn set_choice(&mut self, problem: &Problem, watches: &Watches, term: u32, number: u128)
         requires watches { watches.now ≡ watches_of problem.now.terms }
-        requires numbers { IsAssignment problem.now.terms numbers.now }
+        requires term { term < length problem.now.terms }
+        requires choice { IsTrue (is_choice (term_at problem.now.terms term)) }
+        requires number { number < 2 ^ bits_at problem.now.terms term }
         requires seen_to { AreSeenTo problem.now.terms self.old.values.items self.old.marks.marks.items }
         ensures seen_to { AreSeenTo problem.now.terms self.new.values.items self.new.marks.marks.items }
-        ensures numbers { AreNumbers problem.now.terms numbers.now self.new.values.items (length numbers.now) }
+        ensures values { self.new.values.items ≡ slice_set self.old.values.items term number }
     {
-        for choice in 0..problem.choice_count() {
-            match problem.choice_term(choice) {
-                Some(term) => self.set_value(problem, watches, term, numbers[choice as usize]),
-                None => {}
-            }
-        }
+        self.set_value(problem, watches, term, number);
     }
 
     // Evaluates a marked term before which none is marked.
@@ -151,18 +149,16 @@ impl Evaluation {
         self.marks.clear();
     }
 
-    /// Whether an assignment solves the problem. It goes over the choices and the required terms, and
-    /// evaluates the terms that use a term whose value differs from the one that it had under the
-    /// assignment before. It takes no memory.
-    pub fn eval(&mut self, problem: &Problem, watches: &Watches, numbers: &[u128]) -> bool
+    /// Whether the numbers that the choices have solve the problem. It goes over the required terms, and
+    /// evaluates the terms that use a term whose value changes. It takes no memory.
+    pub fn eval(&mut self, problem: &Problem, watches: &Watches) -> bool
         requires watches { watches.now ≡ watches_of problem.now.terms }
-        requires numbers { IsAssignment problem.now.terms numbers.now }
-        requires evaluated { IsEvaluated problem.now.terms self.old }
+        requires seen_to { AreSeenTo problem.now.terms self.old.values.items self.old.marks.marks.items }
         ensures evaluated { IsEvaluated problem.now.terms self.new }
-        ensures values { self.new.values.items ≡ values_of problem.now.terms numbers.now }
-        ensures solves { result ≡ solves problem.now numbers.now }
+        ensures choices { (t : ℕ) → IsTrue (is_choice (term_at problem.now.terms t)) → slice_index self.new.values.items t ≡ slice_index self.old.values.items t }
+        ensures values { self.new.values.items ≡ values_of problem.now.terms (numbers_of problem.now.terms self.old.values.items) }
+        ensures solves { result ≡ solves problem.now (numbers_of problem.now.terms self.old.values.items) }
     {
-        self.set_numbers(problem, watches, numbers);
         self.evaluate_marked(problem, watches);
         are_ones(problem.required.as_slice(), &self.values)
     }

@@ -1,37 +1,26 @@
 -- An accepted model has what its problems ask of it.
-use Rattle.std.proofs.Common.{◌≡◌, ℕ, zero, suc, ◌*◌, ◌/◌, ◌<◌, ◌^◌, Bool, true, false, not, ◌&&◌, ◌||◌, eqb, List, [], ◌∷◌, Option, Some, None, length, map, ◌⊎◌, inl, inr, ⊎_elim, refl, sym, ap, ◌∙◌, subst, arith}
-use Rattle.std.specs.Prelude.{IsSome, IsSomeAnd, is_some, slice_get, Contains}
-use Rattle.std.proofs.lemmas.Bool.{false_from_ne_true, or_parts, false≢true, not-false, eqb-true}
+use Rattle.std.proofs.Common.{◌≡◌, ℕ, zero, suc, ◌*◌, ◌/◌, ◌<◌, ◌^◌, Bool, true, false, not, ◌&&◌, ◌||◌, eqb, List, [], ◌∷◌, Option, Some, None, length, ⊎_elim, refl, sym, ap, ◌∙◌, subst, arith}
+use Rattle.std.specs.Prelude.{IsSome, is_some, slice_get, Contains}
+use Rattle.std.proofs.lemmas.Bool.{false_from_ne_true, or_parts, false≢true, eqb-true, or_cases}
 use Rattle.std.proofs.lemmas.List.{length-map}
 use Rattle.std.proofs.lemmas.List.Elements.{recursion_from_All, All-contains_itself, All-weaker}
+use Rattle.dt_model.proofs.Fitting.{fitted_parts}
+use Rattle.dt_model.proofs.Accepting.{same_width}
+use Rattle.dt_model.proofs.Nodes.{act_at}
 use Rattle.dt_model.specs.declared.model.Named.{Named}
-use Rattle.dt_model.specs.declared.refusal.ModelRefusal.{ModelRefusal}
 use Rattle.dt_model.specs.declared.refusal.ModelRefusal.TheVariants.{WidthMismatch, WidthRange, Unassigned, NoNode}
-use Rattle.dt_model.specs.declared.refusal.Place.TheVariants.{Header, Node as At}
-use Rattle.dt_model.specs.ModelData.{ModelData, Tree, ActData, NodeData, bind, read, branch, fault, done, value, reg, input, var, apply1, apply2, apply3}
+use Rattle.dt_model.specs.declared.refusal.Place.TheVariants.{Header}
+use Rattle.dt_model.specs.ModelData.{ModelData, Tree, ActData, bind, read, branch, fault, done, value, reg, input, var, apply1, apply2, apply3}
 use Rattle.dt_model.specs.Widths.{Scope, tree_width, width_at, differs, uses, HasArities}
-use Rattle.dt_model.specs.Faults.{IsAccepted, HaveArities, NodeBreaks, UsesLeft, context_scope, access_scope, node_scope, on_tree, step_mismatch, steps, tree_in, is_word, is_address}
+use Rattle.dt_model.specs.Faults.{IsAccepted, HaveArities, UsesLeft, context_scope, access_scope, node_scope, on_tree, step_mismatch, steps, tree_in, is_word, is_address}
 use Rattle.dt_model.specs.Widths.{has_mismatch}
 use Rattle.dt_walk.specs.Sound.{IsSound}
-use Rattle.dt_walk.proofs.Sound.{accepted_sound, context_rule, access_rule}
+use Rattle.dt_walk.proofs.Sound.{accepted_sound, context_rule, access_rule, fine}
 use Rattle.dt_encode.specs.Table.{align_of}
-use Rattle.dt_encode.proofs.Trees.{fitted_parts}
 use Rattle.dt_encode.proofs.Nodes.{IsStep, IsClean}
 use Rattle.dt_encode.proofs.Ready.{IsReady}
 
-node_at : (nodes : List NodeData) (i : ℕ) (p : ActData) → slice_get (map (λ n. n.step) nodes) i ≡ Some p → (n : NodeData) × (slice_get nodes i ≡ Some n) × (n.step ≡ p)
-node_at [] i p e = absurd (cc)
-node_at (n ∷ ns) zero p e = let s : n.step ≡ p = cc in (n, refl, s)
-node_at (n ∷ ns) (suc i) p e = node_at ns i p e
-
-fine : (d : ModelData) (i : ℕ) (n : NodeData) → IsAccepted d → slice_get d.nodes i ≡ Some n → (r : ModelRefusal) → NodeBreaks d i n r → ⊥
-fine d i n a e r b = a (At i) r (subst (λ (o : Option NodeData). IsSomeAnd o (λ m. NodeBreaks d i m r)) (sym e) b)
-
 -- ---- widths
-
-same_width : (a : Option ℕ) (w : ℕ) → IsSome a → differs a (Some w) ≡ false → a ≡ Some w
-same_width (Some a) w p d = ap (λ (n : ℕ). Some n) (eqb-true a w (not-false (eqb a w) d))
-same_width None w p d = absurd (false≢true p)
 
 some_of : (o : Option ℕ) → IsSome o → (w : ℕ) × (o ≡ Some w)
 some_of (Some w) h = (w, refl)
@@ -55,10 +44,6 @@ known [] i h = absurd (false≢true h)
 known (n ∷ ns) zero h = omega arith
 known (n ∷ ns) (suc i) h = let k = known ns i h in omega (arith, k)
 
-either : (a b : Bool) → (a || b) ≡ true → (a ≡ true) ⊎ (b ≡ true)
-either true b e = inl refl
-either false b e = inr e
-
 used_known : (s : Scope) (t : Tree) (x : ℕ) → IsSome (tree_width s t) → uses t x ≡ true → x < length s.vars
 used_known s (value w n) x h u = absurd (false≢true u)
 used_known s (reg i) x h u = absurd (false≢true u)
@@ -67,12 +52,12 @@ used_known s (var i) x h u = subst (λ (j : ℕ). j < length s.vars) (eqb-true i
 used_known s (apply1 op a) x h u = used_known s a x (fitted_parts op (tree_width s a) (Some 1) (Some 1) h).0 u
 used_known s (apply2 op a b) x h u =
     let p = fitted_parts op (tree_width s a) (tree_width s b) (Some 1) h in
-    ⊎_elim (λ (q : uses a x ≡ true). used_known s a x p.0 q) (λ (q : uses b x ≡ true). used_known s b x p.1 q) (either (uses a x) (uses b x) u)
+    ⊎_elim (λ (q : uses a x ≡ true). used_known s a x p.0 q) (λ (q : uses b x ≡ true). used_known s b x p.1 q) (or_cases (uses a x) (uses b x) u)
 used_known s (apply3 op a b c) x h u =
     let p = fitted_parts op (tree_width s a) (tree_width s b) (tree_width s c) h in
     ⊎_elim (λ (q : uses a x ≡ true). used_known s a x p.0 q)
-    (λ (k : (uses b x || uses c x) ≡ true). ⊎_elim (λ (q : uses b x ≡ true). used_known s b x p.1 q) (λ (q : uses c x ≡ true). used_known s c x p.2 q) (either (uses b x) (uses c x) k))
-    (either (uses a x) (uses b x || uses c x) u)
+    (λ (k : (uses b x || uses c x) ≡ true). ⊎_elim (λ (q : uses b x ≡ true). used_known s b x p.1 q) (λ (q : uses c x ≡ true). used_known s c x p.2 q) (or_cases (uses b x) (uses c x) k))
+    (or_cases (uses a x) (uses b x || uses c x) u)
 
 tree_some : (d : ModelData) (count i : ℕ) (p : ActData) (t : Tree) → IsStep (node_scope d) d.address d.word count i p → tree_in p ≡ Some t → IsSome (tree_width (node_scope d) t)
 tree_some d count i (bind x e to) t h q = let s : e ≡ t = cc in subst (λ (y : Tree). IsSome (tree_width (node_scope d) y)) s (ap is_some h.1.1)
@@ -90,9 +75,9 @@ clean_at d i (Some t) w h = λ x u p. h (x, used_known (node_scope d) t x (w t r
 words_of_size : (w : ℕ) → is_word w ≡ true → (w / 8 ≡ 2 ^ align_of w) × (w ≡ 8 * (w / 8))
 words_of_size w h = ⊎_elim (λ (e : eqb w 8 ≡ true). fits_at 8 (sym (eqb-true w 8 e)) (refl, refl))
     (λ (k : (eqb w 16 || (eqb w 32 || eqb w 64)) ≡ true). ⊎_elim (λ (e : eqb w 16 ≡ true). fits_at 16 (sym (eqb-true w 16 e)) (refl, refl))
-    (λ (j : (eqb w 32 || eqb w 64) ≡ true). ⊎_elim (λ (e : eqb w 32 ≡ true). fits_at 32 (sym (eqb-true w 32 e)) (refl, refl)) (λ (e : eqb w 64 ≡ true). fits_at 64 (sym (eqb-true w 64 e)) (refl, refl)) (either (eqb w 32) (eqb w 64) j))
-    (either (eqb w 16) (eqb w 32 || eqb w 64) k))
-    (either (eqb w 8) (eqb w 16 || (eqb w 32 || eqb w 64)) h)
+    (λ (j : (eqb w 32 || eqb w 64) ≡ true). ⊎_elim (λ (e : eqb w 32 ≡ true). fits_at 32 (sym (eqb-true w 32 e)) (refl, refl)) (λ (e : eqb w 64 ≡ true). fits_at 64 (sym (eqb-true w 64 e)) (refl, refl)) (or_cases (eqb w 32) (eqb w 64) j))
+    (or_cases (eqb w 16) (eqb w 32 || eqb w 64) k))
+    (or_cases (eqb w 8) (eqb w 16 || (eqb w 32 || eqb w 64)) h)
   where
     fits_at : (n : ℕ) → n ≡ w → ((n / 8 ≡ 2 ^ align_of n) × (n ≡ 8 * (n / 8))) → (w / 8 ≡ 2 ^ align_of w) × (w ≡ 8 * (w / 8))
     fits_at n e p = subst (λ (m : ℕ). (m / 8 ≡ 2 ^ align_of m) × (m ≡ 8 * (m / 8))) e p
@@ -108,14 +93,14 @@ some_nodes (suc n) h = omega arith
 pub ready_from : (d : ModelData) → IsAccepted d → HaveArities d → IsReady d
 ready_from d a h =
     let sound : (i : ℕ) (p : ActData) → slice_get (steps d) i ≡ Some p → IsStep (node_scope d) d.address d.word (length (steps d)) i p = λ i p e.
-    let n = node_at d.nodes i p e in
+    let n = act_at d.nodes i p e in
     step_is d (length (steps d)) i p (accepted_sound d a h i p e)
     (subst (λ (q : ActData). (on_tree q (has_mismatch (node_scope d)) || step_mismatch d.word d.address (node_scope d) q) ≡ false) n.2 (false_from_ne_true _ (fine d i n.0 a n.1 WidthMismatch))) in
     let sizes = words_of_size d.word (both_true (is_word d.word) (is_address d.address) (a Header WidthRange)) in
     record {
       sound = sound;
       clean = λ i p e.
-          let n = node_at d.nodes i p e in
+          let n = act_at d.nodes i p e in
           clean_at d i (tree_in p) (λ t q. tree_some d (length (steps d)) i p t (sound i p e) q) (λ u. fine d i n.0 a n.1 Unassigned (subst (λ (q : ActData). UsesLeft (steps d) (length d.vars) i (tree_in q)) (sym n.2) u));
       nonempty = subst (λ (n : ℕ). 0 < n) (sym (length-map d.nodes _)) (some_nodes (length d.nodes) (a Header NoNode));
       bytes = sizes.0;

@@ -1,9 +1,11 @@
 -- What stands for the contexts and accesses of a list, one after another.
-use Rattle.std.proofs.Common.{◌≡◌, ℕ, zero, suc, ◌+◌, ◌<◌, Bool, true, false, List, [], ◌∷◌, ◌++◌, length, map, Some, refl, sym, ap, ◌∙◌, subst, ◌||◌, ◌⊎◌, inl, inr, ⊎_elim}
+use Rattle.std.proofs.Common.{◌≡◌, ℕ, zero, suc, ◌+◌, ◌<◌, true, List, [], ◌∷◌, ◌++◌, length, map, Some, refl, sym, ap, ◌∙◌, subst, ◌||◌, ⊎_elim}
 use Rattle.std.specs.Prelude.{is_some, IsSome, IsTrue}
 use Rattle.std.specs.List.{AllByRecursion}
-use Rattle.std.proofs.lemmas.Bool.{false≢true}
+use Rattle.std.proofs.lemmas.Bool.{false≢true, or_cases}
 use Rattle.std.proofs.lemmas.List.{append-nil, append_assoc}
+use Rattle.dt_lemmas.proofs.Lists.{AllByRecursion-append, AllByRecursion-split}
+use Rattle.dt_model.proofs.Fitting.{fitted_parts}
 use Rattle.dt_model.specs.declared.model.Named.{Named as NamedWidth}
 use Rattle.dt_model.specs.ModelData.{ModelData, Tree, value, reg, input, var, apply1, apply2, apply3}
 use Rattle.dt_model.specs.Faults.{steps, context_scope, access_scope}
@@ -23,20 +25,10 @@ use Rattle.dt_encode.specs.Images.{bits_from}
 use Rattle.dt_forms.proofs.FormValues.{required_before, required_hold, hold_required}
 use Rattle.dt_forms.specs.Claims.{AreOnes, Hold}
 use Rattle.dt_forms.specs.Forms.{HaveForms}
-use Rattle.dt_encode.proofs.Trees.{fitted_parts, tree_form, form_means}
+use Rattle.dt_encode.proofs.Trees.{tree_form, form_means}
 use Rattle.dt_encode.proofs.Nodes.{walk_before}
 use Rattle.dt_encode.proofs.Stand.{name_value}
 use Rattle.dt_encode.proofs.Ready.{IsReady, AreSet}
-
--- ---- lists of facts
-
-pub all_join : {X : Type 0} (P : X → Type 0) (xs ys : List X) → AllByRecursion P xs → AllByRecursion P ys → AllByRecursion P (xs ++ ys)
-all_join P [] ys h k = k
-all_join P (x ∷ xs) ys h k = (h.0, all_join P xs ys h.1 k)
-
-pub all_split : {X : Type 0} (P : X → Type 0) (xs ys : List X) → AllByRecursion P (xs ++ ys) → AllByRecursion P xs × AllByRecursion P ys
-all_split P [] ys h = (tt, h)
-all_split P (x ∷ xs) ys h = let r = all_split P xs ys h.1 in ((h.0, r.0), r.1)
 
 -- ---- rules
 
@@ -56,10 +48,6 @@ rules_form : (at : Named) (s : Scope) (ts : List Tree) → AllByRecursion (λ (t
 rules_form at s [] h = tt
 rules_form at s (t ∷ ts) h = (tree_form at t h.0.0, rules_form at s ts h.1)
 
-either : (a b : Bool) → (a || b) ≡ true → (a ≡ true) ⊎ (b ≡ true)
-either true b e = inl refl
-either false b e = inr e
-
 -- where no variable is known, none is used
 no_var : (s : Scope) (t : Tree) (x : ℕ) → s.vars ≡ [] → IsSome (tree_width s t) → uses t x ≡ true → ⊥
 no_var s (value w n) x e h u = false≢true u
@@ -69,12 +57,12 @@ no_var s (var i) x e h u = false≢true (ap (λ (ns : List NamedWidth). is_some 
 no_var s (apply1 op a) x e h u = no_var s a x e (fitted_parts op (tree_width s a) (Some 1) (Some 1) h).0 u
 no_var s (apply2 op a b) x e h u =
     let p = fitted_parts op (tree_width s a) (tree_width s b) (Some 1) h in
-    ⊎_elim (λ (q : uses a x ≡ true). no_var s a x e p.0 q) (λ (q : uses b x ≡ true). no_var s b x e p.1 q) (either (uses a x) (uses b x) u)
+    ⊎_elim (λ (q : uses a x ≡ true). no_var s a x e p.0 q) (λ (q : uses b x ≡ true). no_var s b x e p.1 q) (or_cases (uses a x) (uses b x) u)
 no_var s (apply3 op a b c) x e h u =
     let p = fitted_parts op (tree_width s a) (tree_width s b) (tree_width s c) h in
     ⊎_elim (λ (q : uses a x ≡ true). no_var s a x e p.0 q)
-    (λ (k : (uses b x || uses c x) ≡ true). ⊎_elim (λ (q : uses b x ≡ true). no_var s b x e p.1 q) (λ (q : uses c x ≡ true). no_var s c x e p.2 q) (either (uses b x) (uses c x) k))
-    (either (uses a x) (uses b x || uses c x) u)
+    (λ (k : (uses b x || uses c x) ≡ true). ⊎_elim (λ (q : uses b x ≡ true). no_var s b x e p.1 q) (λ (q : uses c x ≡ true). no_var s c x e p.2 q) (or_cases (uses b x) (uses c x) k))
+    (or_cases (uses a x) (uses b x || uses c x) u)
 
 pub context_same : (v : Valuation) (d : ModelData) (r : Requests) (c : ℕ) (ts : List Tree) → AreSet v d r → c < length r.contexts → AllByRecursion (λ (t : Tree). HasArities t × IsSome (tree_width (context_scope d) t)) ts
     → AllByRecursion (RuleSame v d (rule_named (context_scope d) (regs_at d c) 0) (bits_from v (regs_at d c) d.regs) []) ts
@@ -123,11 +111,11 @@ access_forms d r k a ready = rules_form (rule_named (access_scope d) (regs_at d 
 
 forms_ones : (v : Valuation) (b : Built) (fs : List Form) → HaveForms fs → IsLawful v (with_forms b fs).terms → AreOnes v (with_forms b fs).required → AreOnes v b.required × Hold v fs
 forms_ones v b fs f h o =
-    let p = all_split (λ (t : ℕ). is_one (v t) ≡ true) b.required (all_required b.terms fs).required o in
+    let p = AllByRecursion-split (λ (t : ℕ). is_one (v t) ≡ true) b.required (all_required b.terms fs).required o in
     (p.0, required_hold v fs b.terms f h p.1)
 
 ones_forms : (v : Valuation) (b : Built) (fs : List Form) → HaveForms fs → IsLawful v (with_forms b fs).terms → AreOnes v b.required → Hold v fs → AreOnes v (with_forms b fs).required
-ones_forms v b fs f h o k = all_join (λ (t : ℕ). is_one (v t) ≡ true) b.required (all_required b.terms fs).required o (hold_required v fs b.terms f h k)
+ones_forms v b fs f h o k = AllByRecursion-append (λ (t : ℕ). is_one (v t) ≡ true) b.required (all_required b.terms fs).required o (hold_required v fs b.terms f h k)
 
 -- ---- contexts
 
@@ -237,7 +225,7 @@ table_solved v d r ready f h o =
     let h1 : IsLawful v b.terms = required_before v (claim_forms d r b.outs ++ extra_forms d r b.outs) b.terms h in
     let p = accesses_ones v d r r.accesses c 0 ready h1 s.0 in
     let q = contexts_ones v d (length r.contexts) 0 (start d r) ready (accesses_before v d r r.accesses c 0 h1) p.0 in
-    record { contexts = q.1; accesses = p.1; claims = (all_split (λ (g : Form). is_one (form_value v g) ≡ true) (claim_forms d r b.outs) (extra_forms d r b.outs) s.1).0 }
+    record { contexts = q.1; accesses = p.1; claims = (AllByRecursion-split (λ (g : Form). is_one (form_value v g) ≡ true) (claim_forms d r b.outs) (extra_forms d r b.outs) s.1).0 }
 
 pub solved_table : (v : Valuation) (d : ModelData) (r : Requests) → IsReady d → HaveForms (claim_forms d r (built d r).outs ++ extra_forms d r (built d r).outs) → IsLawful v (table d r).terms → IsSolved v d r → Hold v (extra_forms d r (built d r).outs) → AreOnes v (table d r).required
 unfolding table
@@ -247,4 +235,4 @@ solved_table v d r ready f h s x =
     let h1 : IsLawful v b.terms = required_before v (claim_forms d r b.outs ++ extra_forms d r b.outs) b.terms h in
     let q = ones_contexts v d (length r.contexts) 0 (start d r) ready (accesses_before v d r r.accesses c 0 h1) tt s.contexts in
     let p = ones_accesses v d r r.accesses c 0 ready h1 q s.accesses in
-    ones_forms v b (claim_forms d r b.outs ++ extra_forms d r b.outs) f h p (all_join (λ (g : Form). is_one (form_value v g) ≡ true) (claim_forms d r b.outs) (extra_forms d r b.outs) s.claims x)
+    ones_forms v b (claim_forms d r b.outs ++ extra_forms d r b.outs) f h p (AllByRecursion-append (λ (g : Form). is_one (form_value v g) ≡ true) (claim_forms d r b.outs) (extra_forms d r b.outs) s.claims x)

@@ -2,6 +2,7 @@
 use Rattle.std.proofs.Common.{◌≡◌, ℕ, ◌+◌, ◌<◌, ◌≤◌, Bool, true, false, not, ◌&&◌, ◌||◌, cond, eqb, List, ◌∷◌, Option, Some, None, ◌⊎◌, inl, inr, ⊎_elim, refl, sym, ap, ◌∙◌, subst, arith}
 use Rattle.std.proofs.lemmas.Bool.{ne_eqb, eq-eqb, eqb-true, eqb-false, cases_Bool, or_from}
 use Rattle.std.specs.Int.Bits.{and_zero_l}
+use Rattle.dt_lemmas.proofs.Options.{some_is}
 use Rattle.dt_bits.specs.Bits.{width}
 use Rattle.dt_bits.specs.Ops.{applied}
 use Rattle.dt_bits.specs.declared.op.Op.TheVariants.{And, Or, Ite}
@@ -18,7 +19,6 @@ use Rattle.dt_encode.specs.Passing.{Access, State, named, join, part, chosen, as
 use Rattle.dt_forms.specs.Meaning.{Valuation, IsLawful, flag}
 use Rattle.dt_forms.proofs.Lawful.{place_before, place_value, or_value}
 use Rattle.dt_encode.proofs.Trees.{IsBound}
-use Rattle.dt_forms.proofs.Fitted.{some_same}
 
 -- ---- where the walk comes
 
@@ -158,8 +158,8 @@ assign_wide v a s x taken new w h k n wide y t u e f = by_place (cases_Bool (eqb
     by_place (inl b) =
         let q : y ≡ x = eqb-true y x b in
         let z = ap (λ (c : Bool). cond c (Some (chosen s.terms (s.vars x) taken new).at) (s.vars y)) b in
-        let i : (chosen s.terms (s.vars x) taken new).at ≡ t = some_same _ _ (sym z ∙ e) in
-        let j : w ≡ u = some_same _ _ (sym k ∙ ap (λ (i : ℕ). width_at a.scope.vars i) (sym q) ∙ f) in
+        let i : (chosen s.terms (s.vars x) taken new).at ≡ t = some_is _ _ (sym z ∙ e) in
+        let j : w ≡ u = some_is _ _ (sym k ∙ ap (λ (i : ℕ). width_at a.scope.vars i) (sym q) ∙ f) in
         ap (λ (m : ℕ). (v m).width.0) (sym i) ∙ chosen_wide v s.terms (s.vars x) taken new h ∙ n ∙ j
     by_place (inr b) = wide y t u (sym (ap (λ (c : Bool). cond c (Some (chosen s.terms (s.vars x) taken new).at) (s.vars y)) b) ∙ e) f
 

@@ -11,6 +11,7 @@ use Rattle.dt_forms.specs.Forms.{term, form_value}
 use Rattle.dt_encode.specs.Claims.{is_end, ends_only}
 use Rattle.dt_forms.specs.Claims.{Hold}
 use Rattle.dt_forms.proofs.Lawful.{flag_one}
+use Rattle.dt_forms.proofs.Tells.{Tells}
 
 -- the step is the one by which the run ends
 abbrev pub EndsBy : ActData → End → Type 0
@@ -46,7 +47,7 @@ none_hold v test (p ∷ ps) (o ∷ os) t h = by_step (is_end p) (test p) h.0 (no
     by_step false b n k = k
 
 -- where the end passes, the terms are 1
-pub ends_hold : (v : Valuation) (test : ActData → Bool) (ps : List ActData) (os : List Out) (end : End) → AreTruths v os → ((p : ActData) → EndsBy p end → test p ≡ true) → EndsOnce v ps os end → Hold v (ends_only test ps os)
+ends_hold : (v : Valuation) (test : ActData → Bool) (ps : List ActData) (os : List Out) (end : End) → AreTruths v os → ((p : ActData) → EndsBy p end → test p ≡ true) → EndsOnce v ps os end → Hold v (ends_only test ps os)
 ends_hold v test [] os end t k h = absurd h
 ends_hold v test (p ∷ ps) [] end t k h = absurd h
 ends_hold v test (p ∷ ps) (o ∷ os) end t k (inl h) =
@@ -73,7 +74,7 @@ ends_is_end (fault c) end h = refl
 ends_is_end (done e p) end h = refl
 
 -- where they are 1, the end passes
-pub hold_ends : (v : Valuation) (test : ActData → Bool) (ps : List ActData) (os : List Out) (end : End) → AreTruths v os → Hold v (ends_only test ps os) → EndsOnce v ps os end → (p : ActData) × EndsBy p end × (test p ≡ true)
+hold_ends : (v : Valuation) (test : ActData → Bool) (ps : List ActData) (os : List Out) (end : End) → AreTruths v os → Hold v (ends_only test ps os) → EndsOnce v ps os end → (p : ActData) × EndsBy p end × (test p ≡ true)
 hold_ends v test [] os end t g h = absurd h
 hold_ends v test (p ∷ ps) [] end t g h = absurd h
 hold_ends v test (p ∷ ps) (o ∷ os) end t g (inl h) = (p, h.1, by_step (is_end p) (test p) (ends_is_end p end h.1) g)
@@ -88,3 +89,10 @@ hold_ends v test (p ∷ ps) (o ∷ os) end t g (inr h) = hold_ends v test ps os 
     by_step true true k = k
     by_step true false k = k.1
     by_step false b k = k
+
+-- the terms tell whether the end passes, where each step by which the run can end says so
+pub ends_tell : (v : Valuation) (test : ActData → Bool) (ps : List ActData) (os : List Out) (end : End) (b : Bool) → AreTruths v os → EndsOnce v ps os end → ((p : ActData) → EndsBy p end → test p ≡ b) → Tells v (ends_only test ps os) b
+ends_tell v test ps os end b t e k = record {
+  holds = λ h. let q = hold_ends v test ps os end t h e in sym (k q.0 q.1) ∙ q.2;
+  held = λ h. ends_hold v test ps os end t (λ p q. k p q ∙ h) e;
+}

@@ -3,6 +3,7 @@ use Rattle.std.proofs.Common.{◌≡◌, ℕ, zero, suc, ◌+◌, true, false, L
 use Rattle.std.specs.Prelude.{position}
 use Rattle.std.specs.List.{flat_map, AllByRecursion}
 use Rattle.std.proofs.lemmas.List.{append-nil, append_assoc}
+use Rattle.dt_lemmas.proofs.Lists.{AllByRecursion-append}
 use Rattle.dt_bits.specs.Bits.{width}
 use Rattle.dt_bits.specs.declared.op.Op.{Op}
 use Rattle.dt_bits.specs.declared.op.Op.TheVariants.{Or, Ite, Const}
@@ -22,7 +23,6 @@ use Rattle.dt_forms.specs.Forms.{Form, term, number, form1, form2, form3, form_p
 use Rattle.dt_encode.specs.Expressions.{form_of}
 use Rattle.dt_encode.specs.Passing.{Access, State, named, with_terms, join, chosen, assign, fork, part, is_cell, passed, noted, walk_placed}
 use Rattle.dt_encode.specs.Table.{words_at, access_of, first_state, context_rules, access_rules, Built, with_forms, contexts_built, access_built, accesses_built, start, bit_node, built, claim_forms, extra_forms, table, choices, names_chosen, access_chosen}
-use Rattle.dt_encode.proofs.Composed.{all_join}
 
 -- the second list is the first, and then nodes
 abbrev pub Extends : List Term → List Term → Type 0
@@ -32,7 +32,7 @@ pub extends_self : (terms : List Term) → Extends terms terms
 extends_self terms = ([], sym (append-nil terms), tt)
 
 pub extends_on : (a b c : List Term) → Extends a b → Extends b c → Extends a c
-extends_on a b c p q = (p.0 ++ q.0, q.1 ∙ ap (λ (l : List Term). l ++ q.0) p.1 ∙ append_assoc a p.0 q.0, all_join (λ (t : Term). is_choice t ≡ false) p.0 q.0 p.2 q.2)
+extends_on a b c p q = (p.0 ++ q.0, q.1 ∙ ap (λ (l : List Term). l ++ q.0) p.1 ∙ append_assoc a p.0 q.0, AllByRecursion-append (λ (t : Term). is_choice t ≡ false) p.0 q.0 p.2 q.2)
 
 put_extends : (terms : List Term) (x : Term) → is_choice x ≡ false → Extends terms (put terms x).terms
 put_extends terms x e = by_place (position (same_term x) terms)
@@ -156,10 +156,10 @@ words_choices (suc n) w = (refl, words_choices n w)
 
 repeated_choices : {A : Type 0} (xs : List Term) (cs : List A) → AreChoices xs → AreChoices (flat_map (λ (_ : A). xs) cs)
 repeated_choices xs [] h = tt
-repeated_choices {A} xs (c ∷ cs) h = all_join (λ (t : Term). is_choice t ≡ true) xs (flat_map (λ (_ : A). xs) cs) h (repeated_choices xs cs h)
+repeated_choices {A} xs (c ∷ cs) h = AllByRecursion-append (λ (t : Term). is_choice t ≡ true) xs (flat_map (λ (_ : A). xs) cs) h (repeated_choices xs cs h)
 
 pub are_choices : (d : ModelData) (r : Requests) → AreChoices (choices d r)
 are_choices d r =
-    all_join (λ (t : Term). is_choice t ≡ true) (flat_map (λ _. names_chosen d.regs) r.contexts) (flat_map (λ _. access_chosen d) r.accesses)
+    AllByRecursion-append (λ (t : Term). is_choice t ≡ true) (flat_map (λ _. names_chosen d.regs) r.contexts) (flat_map (λ _. access_chosen d) r.accesses)
     (repeated_choices (names_chosen d.regs) r.contexts (names_choices d.regs))
-    (repeated_choices (access_chosen d) r.accesses (all_join (λ (t : Term). is_choice t ≡ true) (names_chosen d.inputs) (replicate (read_nodes d) (Choice (width d.word))) (names_choices d.inputs) (words_choices (read_nodes d) d.word)))
+    (repeated_choices (access_chosen d) r.accesses (AllByRecursion-append (λ (t : Term). is_choice t ≡ true) (names_chosen d.inputs) (replicate (read_nodes d) (Choice (width d.word))) (names_choices d.inputs) (words_choices (read_nodes d) d.word)))

@@ -1,6 +1,6 @@
 -- What holds of the terms of each node, whatever walk there is: those of its edges are truths, and addresses have their width.
 use Rattle.std.proofs.Common.{◌≡◌, ℕ, ◌+◌, ◌<◌, ◌≤◌, Bool, true, false, not, ◌&&◌, eqb, List, [], ◌∷◌, length, ◌⊎◌, inl, inr, refl, sym, ap, ◌∙◌, subst, arith}
-use Rattle.std.proofs.lemmas.Bool.{cases_Bool, eqb-true, eqb-false, false≢true}
+use Rattle.std.proofs.lemmas.Bool.{cases_Bool, eqb-true, eqb-false, false≢true, and_parts}
 use Rattle.dt_model.specs.ModelData.{ActData, bind, read, branch, fault, done}
 use Rattle.dt_request.specs.Lists.{is_fork}
 use Rattle.dt_walk.specs.Meaning.{EnvData, Vars}
@@ -49,7 +49,7 @@ each_step v a st cells word steps fact each (p ∷ ps) s n to vars i left wide h
         let hq : IsLawful v q.state.terms = walk_before v a ps q.state (n + 1) h in
         let fn : Follows v a steps s n n vars = subst (λ (j : ℕ). Follows v a steps s n j vars) (sym (eqb-true n to e)) f in (
           each s n to vars p (left.sound n p at) hq f,
-          goes_on v a st cells word steps (noted s n) n vars (AllOuts fact ps (walk_placed a q.state ps (n + 1)).outs) p i at (left.sound n p at) (left.clean n p at) wide.0 hq (noted_follows v a steps s n n vars fn) x
+          goes_on v a st cells word steps (noted s n) n vars (AllOuts fact ps (walk_placed a q.state ps (n + 1)).outs) p (record { is_of = i; at = at; step = left.sound n p at; clean = left.clean n p at; word_wide = wide.0; lawful = hq; follows = noted_follows v a steps s n n vars fn }) x
               (λ to2 vars2 l2 m2 g. ih to2 vars2 (λ l. m2) g),
         )
 
@@ -73,12 +73,8 @@ pub record IsFlagged (v : Valuation) (address : ℕ) (p : ActData) (o : Out) : T
 to_flag : (v : Valuation) (t : ℕ) (b : Bool) → v t ≡ flag b → is_flag v t
 to_flag v t b e = e ∙ ap flag (sym (ap is_one e ∙ flag_one b))
 
-both_left : (p q : Bool) → (p && q) ≡ true → p ≡ true
-both_left true q e = refl
-both_left false q e = absurd (false≢true e)
-
 came : (v : Valuation) (come t : ℕ) (p q : Bool) → v come ≡ flag p → v t ≡ flag (p && q) → is_one (v t) ≡ true → is_one (v come) ≡ true
-came v come t p q e f g = ap is_one e ∙ flag_one p ∙ both_left p q (sym (ap is_one f ∙ flag_one (p && q)) ∙ g)
+came v come t p q e f g = ap is_one e ∙ flag_one p ∙ (and_parts p q (sym (ap is_one f ∙ flag_one (p && q)) ∙ g)).0
 
 -- a fork is left by its other side where the walk comes to it and doesn't leave it by `then`
 split_sides : (v : Valuation) (come t o : ℕ) (p q : Bool) → v come ≡ flag p → v t ≡ flag (p && q) → v o ≡ flag (p && not q) → is_one (v o) ≡ (is_one (v come) && not (is_one (v t)))

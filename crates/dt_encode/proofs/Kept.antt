@@ -5,6 +5,7 @@ use Rattle.std.specs.List.{flat_map, AllByRecursion}
 use Rattle.std.proofs.Math.Nat.{le-div_iff_mul-le, div-add-mod, div-eq_of_lt, pow-le-pow_right}
 use Rattle.std.proofs.lemmas.Nat.{pow_pos}
 use Rattle.std.proofs.lemmas.Bool.{cases_lt, leb-true, lt-ltb, le-ltb, ltb-true, false≢true}
+use Rattle.dt_lemmas.proofs.Lists.{AllByRecursion-append, AllByRecursion-split}
 use Rattle.dt_bits.specs.declared.op.Op.TheVariants.{Shr}
 use Rattle.dt_request.specs.declared.list.KeptRange.{KeptRange}
 use Rattle.dt_satisfy.specs.declared.block.Block.{Block}
@@ -17,8 +18,8 @@ use Rattle.dt_forms.proofs.FormValues.{not_form, both_form}
 use Rattle.dt_encode.specs.Passing.{Out, Access}
 use Rattle.dt_encode.specs.Apart.{Sized}
 use Rattle.dt_encode.specs.Kept.{touches_form, kept_form, kept_forms}
-use Rattle.dt_encode.proofs.Composed.{all_join, all_split}
-use Rattle.dt_encode.proofs.Pages.{IsBlock, block_of, blocks_made, come_of, then_of}
+use Rattle.dt_encode.proofs.Results.{come_of}
+use Rattle.dt_encode.proofs.Pages.{IsBlock, block_of, blocks_made, then_of}
 
 -- ---- blocks against ranges, by quotients
 
@@ -163,7 +164,7 @@ one_kept v a ps ts k h within g = by_range (ltb k.lo k.hi) refl g
     by_range : (b : Bool) → ltb k.lo k.hi ≡ b → Hold v (cond b (map (kept_form a k come_of) ps ++ map (kept_form a k then_of) ts) []) → Kept v ps ts k
     by_range true e f =
         let l = ltb-true k.lo k.hi e in
-        let p = all_split (λ (f : Form). is_one (form_value v f) ≡ true) (map (kept_form a k come_of) ps) (map (kept_form a k then_of) ts) f in
+        let p = AllByRecursion-split (λ (f : Form). is_one (form_value v f) ≡ true) (map (kept_form a k come_of) ps) (map (kept_form a k then_of) ts) f in
         both_false _ _ (row_kept v a k come_of ps h.one h.range l within h.page_is p.0) (row_kept v a k then_of ts h.one h.range l within h.table_is p.1)
     by_range false e f = both_false _ _ (none_touch (blocks_made v come_of ps) k e) (none_touch (blocks_made v then_of ts) k e)
 
@@ -174,7 +175,7 @@ kept_one v a ps ts k h within g = by_range (ltb k.lo k.hi) refl
     by_range true e =
         let l = ltb-true k.lo k.hi e in
         let p = false_both (some_touches (blocks_made v come_of ps) k) (some_touches (blocks_made v then_of ts) k) g in
-        all_join (λ (f : Form). is_one (form_value v f) ≡ true) (map (kept_form a k come_of) ps) (map (kept_form a k then_of) ts)
+        AllByRecursion-append (λ (f : Form). is_one (form_value v f) ≡ true) (map (kept_form a k come_of) ps) (map (kept_form a k then_of) ts)
         (kept_row v a k come_of ps h.one h.range l within h.page_is p.0) (kept_row v a k then_of ts h.one h.range l within h.table_is p.1)
     by_range false e = tt
 
@@ -184,14 +185,14 @@ pub all_kept : (v : Valuation) (a : Access) (ps ts : List Sized) (ks : List Kept
     → Hold v (flat_map (kept_forms a ps ts) ks) → AllByRecursion IsTrue (map (is_kept (blocks_made v come_of ps) (blocks_made v then_of ts)) ks)
 all_kept v a ps ts [] h w g = tt
 all_kept v a ps ts (k ∷ ks) h w g =
-    let p = all_split (λ (f : Form). is_one (form_value v f) ≡ true) (kept_forms a ps ts k) (flat_map (kept_forms a ps ts) ks) g in
+    let p = AllByRecursion-split (λ (f : Form). is_one (form_value v f) ≡ true) (kept_forms a ps ts k) (flat_map (kept_forms a ps ts) ks) g in
     (one_kept v a ps ts k h w.0 p.0, all_kept v a ps ts ks h w.1 p.1)
 
 pub kept_all : (v : Valuation) (a : Access) (ps ts : List Sized) (ks : List KeptRange) → AreTold v a ps ts → AllByRecursion (λ (k : KeptRange). k.hi ≤ 2 ^ a.address) ks
     → AllByRecursion IsTrue (map (is_kept (blocks_made v come_of ps) (blocks_made v then_of ts)) ks) → Hold v (flat_map (kept_forms a ps ts) ks)
 kept_all v a ps ts [] h w g = tt
 kept_all v a ps ts (k ∷ ks) h w g =
-    all_join (λ (f : Form). is_one (form_value v f) ≡ true) (kept_forms a ps ts k) (flat_map (kept_forms a ps ts) ks)
+    AllByRecursion-append (λ (f : Form). is_one (form_value v f) ≡ true) (kept_forms a ps ts k) (flat_map (kept_forms a ps ts) ks)
     (kept_one v a ps ts k h w.0 g.0) (kept_all v a ps ts ks h w.1 g.1)
 
 -- ---- they are forms
@@ -211,9 +212,9 @@ one_form : (a : Access) (ps ts : List Sized) (k : KeptRange) → HaveForms (kept
 one_form a ps ts k = by_range (ltb k.lo k.hi)
   where
     by_range : (b : Bool) → HaveForms (cond b (map (kept_form a k come_of) ps ++ map (kept_form a k then_of) ts) [])
-    by_range true = all_join HasForm (map (kept_form a k come_of) ps) (map (kept_form a k then_of) ts) (row_form a k come_of ps) (row_form a k then_of ts)
+    by_range true = AllByRecursion-append HasForm (map (kept_form a k come_of) ps) (map (kept_form a k then_of) ts) (row_form a k come_of ps) (row_form a k then_of ts)
     by_range false = tt
 
 pub kept_have : (a : Access) (ps ts : List Sized) (ks : List KeptRange) → HaveForms (flat_map (kept_forms a ps ts) ks)
 kept_have a ps ts [] = tt
-kept_have a ps ts (k ∷ ks) = all_join HasForm (kept_forms a ps ts k) (flat_map (kept_forms a ps ts) ks) (one_form a ps ts k) (kept_have a ps ts ks)
+kept_have a ps ts (k ∷ ks) = AllByRecursion-append HasForm (kept_forms a ps ts k) (flat_map (kept_forms a ps ts) ks) (one_form a ps ts k) (kept_have a ps ts ks)

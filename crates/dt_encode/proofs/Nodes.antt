@@ -217,6 +217,126 @@ keeps_on : (v : Valuation) (a : Access) (steps : List ActData) (s : State) (n to
 keeps_on v a steps s n to vars side e l k x =
     ⊎_elim (λ (b : IsBound v (named a s) vars x). inl b) (λ (q : SomePath steps n x false). inr (extend steps n to x side (record { to = to; assigns = None }) e refl l refl q)) (k x)
 
+-- what is known where the walk comes to a node
+pub record IsHere (v : Valuation) (a : Access) (st : EnvData) (cells : ℕ → Bool) (word : ℕ) (steps : List ActData) (s : State) (n : ℕ) (vars : Vars) (p : ActData) : Type 0 where
+  pub is_of : IsOf v a st cells
+  pub at : slice_get steps n ≡ Some p
+  pub step : IsStep a.scope a.address word (length steps) n p
+  pub clean : IsClean steps n (tree_in p)
+  pub word_wide : is_read p ≡ true → (v s.word).width.0 ≡ word
+  pub lawful : IsLawful v (passed a s n p).state.terms
+  pub follows : Follows v a steps s n n vars
+
+-- after a bind the walk waits for its target
+bind_follows : (v : Valuation) (a : Access) (st : EnvData) (cells : ℕ → Bool) (word : ℕ) (steps : List ActData) (s : State) (n : ℕ) (vars : Vars) (x : ℕ) (e : Tree) (t : ℕ) → IsHere v a st cells word steps s n vars (bind x e t)
+    → Follows v a steps (passed a s n (bind x e t)).state (n + 1) t (bound vars x (value_at st vars e).bits)
+bind_follows v a st cells word steps s n vars x e t h =
+    let c = s.come n in
+    let k = h.step in
+    let f = h.follows in
+    let y = form_placed s.terms (form_of (named a s) e) in
+    let s1 = with_terms s y.terms in
+    let s2 = assign s1 x c y.at in
+    let h2 : IsLawful v s2.terms = join_before v s2 t c h.lawful in
+    let h1 : IsLawful v y.terms = assign_before v s1 x c y.at h2 in
+    let z = come_true v s n f.comes in
+    let keeps = f.keeps (omega arith) in
+    let w = valued_here v a st cells steps s n vars e k.0 h.is_of keeps f.wide h.clean k.1 h1 in
+    let m = (value_at st vars e).bits in
+    let width_same : (value_at st vars e).width.0 ≡ unwrap_or (width_at a.scope.vars x) 1 = ap (λ (b : Bv). b.width.0) (sym w.value_is) ∙ w.width_is ∙ sym (ap (λ (o : Option ℕ). unwrap_or o 1) k.2) in
+    let value_same : v y.at ≡ valued (width_at a.scope.vars x) m = w.value_is ∙ ap (λ (j : ℕ). record { width = width j; bits = m }) width_same in
+    record {
+      comes = join_true v s2 (n + 1) n t c h.lawful (omega (arith, k.3)) (omega arith) (comes_later v s n n f.comes) z;
+      keeps = λ l. assign_true v a steps s1 x c y.at t m vars h2 z value_same
+          (λ j ne. ⊎_elim (λ (b : IsBound v (named a s) vars j). inl b) (λ (q : SomePath steps n j false). inr (extend steps n t j next (record { to = t; assigns = Some x }) (ap (λ (o : Option ActData). step_exit o next) h.at) refl k.3 ne q)) (keeps j));
+      wide = assign_wide v a s1 x c y.at k.0 h2 k.2 w.width_is f.wide;
+    }
+
+-- after a branch the walk waits for the target of the side that its test chooses
+record IsBranched (v : Valuation) (a : Access) (st : EnvData) (steps : List ActData) (s : State) (n : ℕ) (vars : Vars) (e : Tree) (t o : ℕ) : Type 0 where
+  then_is : is_one (v (passed a s n (branch e t o)).out.by_then) ≡ eqb (value_at st vars e).bits 1
+  on_then : eqb (value_at st vars e).bits 1 ≡ true → Follows v a steps (passed a s n (branch e t o)).state (n + 1) t vars
+  on_other : eqb (value_at st vars e).bits 1 ≡ false → Follows v a steps (passed a s n (branch e t o)).state (n + 1) o vars
+
+branch_follows : (v : Valuation) (a : Access) (st : EnvData) (cells : ℕ → Bool) (word : ℕ) (steps : List ActData) (s : State) (n : ℕ) (vars : Vars) (e : Tree) (t o : ℕ) → IsHere v a st cells word steps s n vars (branch e t o) → IsBranched v a st steps s n vars e t o
+branch_follows v a st cells word steps s n vars e t o h =
+    let c = s.come n in
+    let k = h.step in
+    let f = h.follows in
+    let y = form_placed s.terms (form_of (named a s) e) in
+    let g = fork y.terms c y.at in
+    let s1 = with_terms s g.terms in
+    let h2 : IsLawful v g.terms = part_before v s1 t g.by_then o g.by_other h.lawful in
+    let h1 : IsLawful v y.terms = fork_before v y.terms c y.at h2 in
+    let z = come_true v s n f.comes in
+    let keeps = f.keeps (omega arith) in
+    let w = valued_here v a st cells steps s n vars e 1 h.is_of keeps f.wide h.clean k.0 h1 in
+    let test = eqb (value_at st vars e).bits 1 in
+    let test_is : v y.at ≡ flag test = one_bit (v y.at).width.0 (v y.at).bits w.width_is (h.is_of.range y.at) ∙ ap (λ (b : Bv). flag (eqb b.bits 1)) w.value_is in
+    let q = fork_value v y.terms c y.at true test h2 z test_is in
+    let comes : Comes v (part s1 t g.by_then o g.by_other) (n + 1) (cond test t o) = part_one v s1 (n + 1) n t g.by_then o g.by_other test h.lawful (omega (arith, k.1)) (omega (arith, k.3)) (omega arith) (comes_later v s n n f.comes) q.then_is q.other_is in
+    record {
+      then_is = ap is_one q.then_is ∙ flag_one test;
+      on_then = λ d. record {
+        comes = subst (λ (b : Bool). Comes v (part s1 t g.by_then o g.by_other) (n + 1) (cond b t o)) d comes;
+        keeps = λ l. keeps_on v a steps s n t vars then (ap (λ (z : Option ActData). step_exit z then) h.at) k.1 keeps;
+        wide = f.wide;
+      };
+      on_other = λ d. record {
+        comes = subst (λ (b : Bool). Comes v (part s1 t g.by_then o g.by_other) (n + 1) (cond b t o)) d comes;
+        keeps = λ l. keeps_on v a steps s n o vars other (ap (λ (z : Option ActData). step_exit z other) h.at) k.3 keeps;
+        wide = f.wide;
+      };
+    }
+
+-- after a read the walk waits for the target of the side that the test of its cell chooses
+record IsRead (v : Valuation) (a : Access) (st : EnvData) (cells : ℕ → Bool) (steps : List ActData) (s : State) (n : ℕ) (vars : Vars) (x : ℕ) (e : Tree) (m t o : ℕ) : Type 0 where
+  value_is : v (passed a s n (read x e m t o)).out.value ≡ value_at st vars e
+  then_is : is_one (v (passed a s n (read x e m t o)).out.by_then) ≡ cells (value_at st vars e).bits
+  on_then : cells (value_at st vars e).bits ≡ true → Follows v a steps (passed a s n (read x e m t o)).state (n + 1) t (bound vars x (v s.word).bits)
+  on_other : cells (value_at st vars e).bits ≡ false → Follows v a steps (passed a s n (read x e m t o)).state (n + 1) o vars
+
+read_follows : (v : Valuation) (a : Access) (st : EnvData) (cells : ℕ → Bool) (word : ℕ) (steps : List ActData) (s : State) (n : ℕ) (vars : Vars) (x : ℕ) (e : Tree) (m t o : ℕ) → IsHere v a st cells word steps s n vars (read x e m t o) → IsRead v a st cells steps s n vars x e m t o
+read_follows v a st cells word steps s n vars x e m t o h =
+    let c = s.come n in
+    let k = h.step in
+    let f = h.follows in
+    let u = h.word_wide refl in
+    let y = form_placed s.terms (form_of (named a s) e) in
+    let y2 = form_placed y.terms (is_cell a y.at) in
+    let g = fork y2.terms c y2.at in
+    let s1 = with_terms s g.terms in
+    let s2 = assign s1 x g.by_then s.word in
+    let h4 : IsLawful v s2.terms = part_before v s2 t g.by_then o g.by_other h.lawful in
+    let h3 : IsLawful v g.terms = assign_before v s1 x g.by_then s.word h4 in
+    let h2 : IsLawful v y2.terms = fork_before v y2.terms c y2.at h3 in
+    let h1 : IsLawful v y.terms = form_before v (is_cell a y.at) y.terms h2 in
+    let z = come_true v s n f.comes in
+    let keeps = f.keeps (omega arith) in
+    let w = valued_here v a st cells steps s n vars e a.address h.is_of keeps f.wide h.clean k.0 h1 in
+    let b = cells (value_at st vars e).bits in
+    let test_is : v y2.at ≡ flag b = h.is_of.cells_are y.terms y.at h2 w.width_is ∙ ap (λ (q : Bv). flag (cells q.bits)) w.value_is in
+    let q = fork_value v y2.terms c y2.at true b h3 z test_is in
+    let comes : Comes v (part s2 t g.by_then o g.by_other) (n + 1) (cond b t o) = part_one v s2 (n + 1) n t g.by_then o g.by_other b h.lawful (omega (arith, k.2)) (omega (arith, k.4)) (omega arith) (comes_later v s n n f.comes) q.then_is q.other_is in
+    let word_is : v s.word ≡ valued (width_at a.scope.vars x) (v s.word).bits = ap (λ (j : ℕ). record { width = width j; bits = (v s.word).bits }) (u ∙ sym (ap (λ (z : Option ℕ). unwrap_or z 1) k.1)) in
+    let wide = assign_wide v a s1 x g.by_then s.word word h4 k.1 u f.wide in
+    record {
+      value_is = w.value_is;
+      then_is = ap is_one q.then_is ∙ flag_one b;
+      on_then = λ d. record {
+        comes = subst (λ (d : Bool). Comes v (part s2 t g.by_then o g.by_other) (n + 1) (cond d t o)) d comes;
+        keeps = λ l. assign_true v a steps s1 x g.by_then s.word t (v s.word).bits vars h4 (q.then_is ∙ ap flag d) word_is
+            (λ j ne. ⊎_elim (λ (p : IsBound v (named a s) vars j). inl p) (λ (p : SomePath steps n j false). inr (extend steps n t j then (record { to = t; assigns = Some x }) (ap (λ (z : Option ActData). step_exit z then) h.at) refl k.2 ne p)) (keeps j));
+        wide = wide;
+      };
+      on_other = λ d. record {
+        comes = subst (λ (d : Bool). Comes v (part s2 t g.by_then o g.by_other) (n + 1) (cond d t o)) d comes;
+        keeps = λ l. assign_false v a steps s1 x g.by_then s.word o word vars h4 (q.then_is ∙ ap flag d) k.1 u f.wide
+            (keeps_on v a steps s n o vars other (ap (λ (z : Option ActData). step_exit z other) h.at) k.4 keeps);
+        wide = wide;
+      };
+    }
+
 -- a read that is made, or isn't
 read_step : (b : Bool) (u n cell x t o : ℕ) (go : ℕ → Vars → RunData) (vars : Vars) (rest : RunData) → (b ≡ true → go t (bound vars x u) ≡ rest) → (b ≡ false → go o vars ≡ rest)
     → visit n (read_of (cond b (Some u) None) n cell x t o go vars) ≡ record { path = n ∷ rest.path; sides = record { node = n; by_then = b } ∷ rest.sides; reads = made_if b (record { node = n; cell = cell; word = u }) rest.reads; end = rest.end }
@@ -231,190 +351,56 @@ ended_told n e rest p r s =
     ∙ ap (λ (l : List SideTaken). record { path = n ∷ rest.path; sides = l; reads = rest.reads; end = e }) (sym s)
 
 here : (v : Valuation) (a : Access) (st : EnvData) (cells : ℕ → Bool) (word : ℕ) (steps : List ActData) (s : State) (n : ℕ) (vars : Vars) (go : ℕ → Vars → RunData) (rest : RunData) (p : ActData)
-    → IsOf v a st cells → slice_get steps n ≡ Some p → IsStep a.scope a.address word (length steps) n p → IsClean steps n (tree_in p) → (is_read p ≡ true → (v s.word).width.0 ≡ word) → IsLawful v (passed a s n p).state.terms
-    → Follows v a steps s n n vars → GoesOn v a steps (passed a s n p).state n go rest
+    → IsHere v a st cells word steps s n vars p → GoesOn v a steps (passed a s n p).state n go rest
     → acted_with st cells (v (passed a s n p).out.word).bits n p go vars ≡ told_step v n p (passed a s n p).out rest
-here v a st cells word steps s n vars go rest (bind x e t) i at k clean u h f r =
-    let c = s.come n in
-    let y = form_placed s.terms (form_of (named a s) e) in
-    let s1 = with_terms s y.terms in
-    let s2 = assign s1 x c y.at in
-    let h2 : IsLawful v s2.terms = join_before v s2 t c h in
-    let h1 : IsLawful v y.terms = assign_before v s1 x c y.at h2 in
-    let z = come_true v s n f.comes in
-    let keeps = f.keeps (omega arith) in
-    let w = valued_here v a st cells steps s n vars e k.0 i keeps f.wide clean k.1 h1 in
-    let m = (value_at st vars e).bits in
-    let width_same : (value_at st vars e).width.0 ≡ unwrap_or (width_at a.scope.vars x) 1 = ap (λ (b : Bv). b.width.0) (sym w.value_is) ∙ w.width_is ∙ sym (ap (λ (o : Option ℕ). unwrap_or o 1) k.2) in
-    let value_same : v y.at ≡ valued (width_at a.scope.vars x) m = w.value_is ∙ ap (λ (j : ℕ). record { width = width j; bits = m }) width_same in
-    ap (visit n) (r.on t (bound vars x m) (omega (arith, k.3)) k.4 (record {
-      comes = join_true v s2 (n + 1) n t c h (omega (arith, k.3)) (omega arith) (comes_later v s n n f.comes) z;
-      keeps = λ l. assign_true v a steps s1 x c y.at t m vars h2 z value_same
-          (λ j ne. ⊎_elim (λ (b : IsBound v (named a s) vars j). inl b) (λ (q : SomePath steps n j false). inr (extend steps n t j next (record { to = t; assigns = Some x }) (ap (λ (o : Option ActData). step_exit o next) at) refl k.3 ne q)) (keeps j));
-      wide = assign_wide v a s1 x c y.at k.0 h2 k.2 w.width_is f.wide;
-    }))
-here v a st cells word steps s n vars go rest (branch e t o) i at k clean u h f r =
-    let c = s.come n in
-    let y = form_placed s.terms (form_of (named a s) e) in
-    let g = fork y.terms c y.at in
-    let s1 = with_terms s g.terms in
-    let h2 : IsLawful v g.terms = part_before v s1 t g.by_then o g.by_other h in
-    let h1 : IsLawful v y.terms = fork_before v y.terms c y.at h2 in
-    let z = come_true v s n f.comes in
-    let keeps = f.keeps (omega arith) in
-    let w = valued_here v a st cells steps s n vars e 1 i keeps f.wide clean k.0 h1 in
+here v a st cells word steps s n vars go rest (bind x e t) h r =
+    let k = h.step in
+    ap (visit n) (r.on t (bound vars x (value_at st vars e).bits) (omega (arith, k.3)) k.4 (bind_follows v a st cells word steps s n vars x e t h))
+here v a st cells word steps s n vars go rest (branch e t o) h r =
+    let k = h.step in
+    let q = branch_follows v a st cells word steps s n vars e t o h in
     let test = eqb (value_at st vars e).bits 1 in
-    let test_is : v y.at ≡ flag test = one_bit (v y.at).width.0 (v y.at).bits w.width_is (i.range y.at) ∙ ap (λ (b : Bv). flag (eqb b.bits 1)) w.value_is in
-    let q = fork_value v y.terms c y.at true test h2 z test_is in
-    let comes = part_one v s1 (n + 1) n t g.by_then o g.by_other test h (omega (arith, k.1)) (omega (arith, k.3)) (omega arith) (comes_later v s n n f.comes) q.then_is q.other_is in
-    ap (λ (r : RunData). visit n (left n test r)) (by_test test comes)
-    ∙ ap (λ (d : Bool). visit n (left n d rest)) (sym (flag_one test) ∙ ap is_one (sym q.then_is))
+    ap (λ (r : RunData). visit n (left n test r)) (chosen_on test (λ d. r.on t vars (omega (arith, k.1)) k.2 (q.on_then d)) (λ d. r.on o vars (omega (arith, k.3)) k.4 (q.on_other d)))
+    ∙ ap (λ (d : Bool). visit n (left n d rest)) (sym q.then_is)
   where
-    by_test : (b : Bool) → Comes v (passed a s n (branch e t o)).state (n + 1) (cond b t o) → go (cond b t o) vars ≡ rest
-    by_test true q = r.on t vars (omega (arith, k.1)) k.2 (record {
-      comes = q;
-      keeps = λ l. keeps_on v a steps s n t vars then (ap (λ (z : Option ActData). step_exit z then) at) k.1 (f.keeps (omega arith));
-      wide = f.wide;
-    })
-    by_test false q = r.on o vars (omega (arith, k.3)) k.4 (record {
-      comes = q;
-      keeps = λ l. keeps_on v a steps s n o vars other (ap (λ (z : Option ActData). step_exit z other) at) k.3 (f.keeps (omega arith));
-      wide = f.wide;
-    })
-here v a st cells word steps s n vars go rest (read x e m t o) i at k clean u h f r =
-    let c = s.come n in
-    let y = form_placed s.terms (form_of (named a s) e) in
-    let y2 = form_placed y.terms (is_cell a y.at) in
-    let g = fork y2.terms c y2.at in
-    let s1 = with_terms s g.terms in
-    let s2 = assign s1 x g.by_then s.word in
-    let h4 : IsLawful v s2.terms = part_before v s2 t g.by_then o g.by_other h in
-    let h3 : IsLawful v g.terms = assign_before v s1 x g.by_then s.word h4 in
-    let h2 : IsLawful v y2.terms = fork_before v y2.terms c y2.at h3 in
-    let h1 : IsLawful v y.terms = form_before v (is_cell a y.at) y.terms h2 in
-    let z = come_true v s n f.comes in
-    let keeps = f.keeps (omega arith) in
-    let w = valued_here v a st cells steps s n vars e a.address i keeps f.wide clean k.0 h1 in
-    let b = cells (value_at st vars e).bits in
-    let test_is : v y2.at ≡ flag b = i.cells_are y.terms y.at h2 w.width_is ∙ ap (λ (q : Bv). flag (cells q.bits)) w.value_is in
-    let q = fork_value v y2.terms c y2.at true b h3 z test_is in
-    let comes : Comes v (part s2 t g.by_then o g.by_other) (n + 1) (cond b t o) = part_one v s2 (n + 1) n t g.by_then o g.by_other b h (omega (arith, k.2)) (omega (arith, k.4)) (omega arith) (comes_later v s n n f.comes) q.then_is q.other_is in
-    let word_is : v s.word ≡ valued (width_at a.scope.vars x) (v s.word).bits = ap (λ (j : ℕ). record { width = width j; bits = (v s.word).bits }) (u refl ∙ sym (ap (λ (z : Option ℕ). unwrap_or z 1) k.1)) in
-    let wide = assign_wide v a s1 x g.by_then s.word word h4 k.1 (u refl) f.wide in
-    let made_on : b ≡ true → go t (bound vars x (v s.word).bits) ≡ rest = λ e.
-    r.on t (bound vars x (v s.word).bits) (omega (arith, k.2)) k.3 (record {
-      comes = subst (λ (d : Bool). Comes v (part s2 t g.by_then o g.by_other) (n + 1) (cond d t o)) e comes;
-      keeps = λ l. assign_true v a steps s1 x g.by_then s.word t (v s.word).bits vars h4 (q.then_is ∙ ap flag e) word_is
-          (λ j ne. ⊎_elim (λ (p : IsBound v (named a s) vars j). inl p) (λ (p : SomePath steps n j false). inr (extend steps n t j then (record { to = t; assigns = Some x }) (ap (λ (z : Option ActData). step_exit z then) at) refl k.2 ne p)) (keeps j));
-      wide = wide;
-    }) in
-    let left_on : b ≡ false → go o vars ≡ rest = λ e.
-    r.on o vars (omega (arith, k.4)) k.5 (record {
-      comes = subst (λ (d : Bool). Comes v (part s2 t g.by_then o g.by_other) (n + 1) (cond d t o)) e comes;
-      keeps = λ l. assign_false v a steps s1 x g.by_then s.word o word vars h4 (q.then_is ∙ ap flag e) k.1 (u refl) f.wide
-          (keeps_on v a steps s n o vars other (ap (λ (z : Option ActData). step_exit z other) at) k.4 keeps);
-      wide = wide;
-    }) in
-    read_step b (v s.word).bits n (value_at st vars e).bits x t o go vars rest made_on left_on
-    ∙ ap (λ (d : Bool). record { path = n ∷ rest.path; sides = record { node = n; by_then = d } ∷ rest.sides; reads = made_if d (record { node = n; cell = (value_at st vars e).bits; word = (v s.word).bits }) rest.reads; end = rest.end }) (sym (flag_one b) ∙ ap is_one (sym q.then_is))
-    ∙ ap (λ (d : Bv). record { path = n ∷ rest.path; sides = record { node = n; by_then = is_one (v g.by_then) } ∷ rest.sides; reads = made_if (is_one (v g.by_then)) (record { node = n; cell = d.bits; word = (v s.word).bits }) rest.reads; end = rest.end }) (sym w.value_is)
-here v a st cells word steps s n vars go rest (fault c) i at k clean u h f r =
-    let d = r.over vars (over_at v a steps s n vars f.comes f.wide) in
+    chosen_on : (b : Bool) → (b ≡ true → go t vars ≡ rest) → (b ≡ false → go o vars ≡ rest) → go (cond b t o) vars ≡ rest
+    chosen_on true f g = f refl
+    chosen_on false f g = g refl
+here v a st cells word steps s n vars go rest (read x e m t o) h r =
+    let k = h.step in
+    let q = read_follows v a st cells word steps s n vars x e m t o h in
+    let o2 = (passed a s n (read x e m t o)).out in
+    read_step (cells (value_at st vars e).bits) (v s.word).bits n (value_at st vars e).bits x t o go vars rest
+    (λ d. r.on t (bound vars x (v s.word).bits) (omega (arith, k.2)) k.3 (q.on_then d)) (λ d. r.on o vars (omega (arith, k.4)) k.5 (q.on_other d))
+    ∙ ap (λ (d : Bool). record { path = n ∷ rest.path; sides = record { node = n; by_then = d } ∷ rest.sides; reads = made_if d (record { node = n; cell = (value_at st vars e).bits; word = (v s.word).bits }) rest.reads; end = rest.end }) (sym q.then_is)
+    ∙ ap (λ (d : Bv). record { path = n ∷ rest.path; sides = record { node = n; by_then = is_one (v o2.by_then) } ∷ rest.sides; reads = made_if (is_one (v o2.by_then)) (record { node = n; cell = d.bits; word = (v s.word).bits }) rest.reads; end = rest.end }) (sym q.value_is)
+here v a st cells word steps s n vars go rest (fault c) h r =
+    let d = r.over vars (over_at v a steps s n vars h.follows.comes h.follows.wide) in
     ended_told n (Fault n c) rest d.0 d.1 d.2
-here v a st cells word steps s n vars go rest (done e p) i at k clean u h f r =
-    let w = valued_here v a st cells steps s n vars e a.address i (f.keeps (omega arith)) f.wide clean k h in
+here v a st cells word steps s n vars go rest (done e p) h r =
+    let f = h.follows in
+    let w = valued_here v a st cells steps s n vars e a.address h.is_of (f.keeps (omega arith)) f.wide h.clean h.step h.lawful in
     let d = r.over vars (over_at v a steps (with_terms s (form_placed s.terms (form_of (named a s) e)).terms) n vars f.comes f.wide) in
     ended_told n (Done n (value_at st vars e).bits p) rest d.0 d.1 d.2
     ∙ ap (λ (b : Bv). record { path = n ∷ rest.path; sides = rest.sides; reads = rest.reads; end = Done n b.bits p }) (sym w.value_is)
 
 -- where the node is no end, the walk goes on
 pub goes_on : (v : Valuation) (a : Access) (st : EnvData) (cells : ℕ → Bool) (word : ℕ) (steps : List ActData) (s : State) (n : ℕ) (vars : Vars) (r : Type 0) (p : ActData)
-    → IsOf v a st cells → slice_get steps n ≡ Some p → IsStep a.scope a.address word (length steps) n p → IsClean steps n (tree_in p) → (is_read p ≡ true → (v s.word).width.0 ≡ word) → IsLawful v (passed a s n p).state.terms
-    → Follows v a steps s n n vars → is_end p ≡ false
+    → IsHere v a st cells word steps s n vars p → is_end p ≡ false
     → ((to : ℕ) (vars2 : Vars) → n + 1 ≤ to → to < length steps → Follows v a steps (passed a s n p).state (n + 1) to vars2 → r) → r
-goes_on v a st cells word steps s n vars r (bind x e t) i at k clean u h f end on =
-    let c = s.come n in
-    let y = form_placed s.terms (form_of (named a s) e) in
-    let s1 = with_terms s y.terms in
-    let s2 = assign s1 x c y.at in
-    let h2 : IsLawful v s2.terms = join_before v s2 t c h in
-    let h1 : IsLawful v y.terms = assign_before v s1 x c y.at h2 in
-    let z = come_true v s n f.comes in
-    let keeps = f.keeps (omega arith) in
-    let w = valued_here v a st cells steps s n vars e k.0 i keeps f.wide clean k.1 h1 in
-    let m = (value_at st vars e).bits in
-    let width_same : (value_at st vars e).width.0 ≡ unwrap_or (width_at a.scope.vars x) 1 = ap (λ (b : Bv). b.width.0) (sym w.value_is) ∙ w.width_is ∙ sym (ap (λ (o : Option ℕ). unwrap_or o 1) k.2) in
-    let value_same : v y.at ≡ valued (width_at a.scope.vars x) m = w.value_is ∙ ap (λ (j : ℕ). record { width = width j; bits = m }) width_same in
-    on t (bound vars x m) (omega (arith, k.3)) k.4 (record {
-      comes = join_true v s2 (n + 1) n t c h (omega (arith, k.3)) (omega arith) (comes_later v s n n f.comes) z;
-      keeps = λ l. assign_true v a steps s1 x c y.at t m vars h2 z value_same
-          (λ j ne. ⊎_elim (λ (b : IsBound v (named a s) vars j). inl b) (λ (q : SomePath steps n j false). inr (extend steps n t j next (record { to = t; assigns = Some x }) (ap (λ (o : Option ActData). step_exit o next) at) refl k.3 ne q)) (keeps j));
-      wide = assign_wide v a s1 x c y.at k.0 h2 k.2 w.width_is f.wide;
-    })
-goes_on v a st cells word steps s n vars r (branch e t o) i at k clean u h f end on =
-    let c = s.come n in
-    let y = form_placed s.terms (form_of (named a s) e) in
-    let g = fork y.terms c y.at in
-    let s1 = with_terms s g.terms in
-    let h2 : IsLawful v g.terms = part_before v s1 t g.by_then o g.by_other h in
-    let h1 : IsLawful v y.terms = fork_before v y.terms c y.at h2 in
-    let z = come_true v s n f.comes in
-    let keeps = f.keeps (omega arith) in
-    let w = valued_here v a st cells steps s n vars e 1 i keeps f.wide clean k.0 h1 in
-    let test = eqb (value_at st vars e).bits 1 in
-    let test_is : v y.at ≡ flag test = one_bit (v y.at).width.0 (v y.at).bits w.width_is (i.range y.at) ∙ ap (λ (b : Bv). flag (eqb b.bits 1)) w.value_is in
-    let q = fork_value v y.terms c y.at true test h2 z test_is in
-    let comes = part_one v s1 (n + 1) n t g.by_then o g.by_other test h (omega (arith, k.1)) (omega (arith, k.3)) (omega arith) (comes_later v s n n f.comes) q.then_is q.other_is in
-    by_test test comes
-  where
-    by_test : (b : Bool) → Comes v (passed a s n (branch e t o)).state (n + 1) (cond b t o) → r
-    by_test true q = on t vars (omega (arith, k.1)) k.2 (record {
-      comes = q;
-      keeps = λ l. keeps_on v a steps s n t vars then (ap (λ (z : Option ActData). step_exit z then) at) k.1 (f.keeps (omega arith));
-      wide = f.wide;
-    })
-    by_test false q = on o vars (omega (arith, k.3)) k.4 (record {
-      comes = q;
-      keeps = λ l. keeps_on v a steps s n o vars other (ap (λ (z : Option ActData). step_exit z other) at) k.3 (f.keeps (omega arith));
-      wide = f.wide;
-    })
-goes_on v a st cells word steps s n vars r (read x e m t o) i at k clean u h f end on =
-    let c = s.come n in
-    let y = form_placed s.terms (form_of (named a s) e) in
-    let y2 = form_placed y.terms (is_cell a y.at) in
-    let g = fork y2.terms c y2.at in
-    let s1 = with_terms s g.terms in
-    let s2 = assign s1 x g.by_then s.word in
-    let h4 : IsLawful v s2.terms = part_before v s2 t g.by_then o g.by_other h in
-    let h3 : IsLawful v g.terms = assign_before v s1 x g.by_then s.word h4 in
-    let h2 : IsLawful v y2.terms = fork_before v y2.terms c y2.at h3 in
-    let h1 : IsLawful v y.terms = form_before v (is_cell a y.at) y.terms h2 in
-    let z = come_true v s n f.comes in
-    let keeps = f.keeps (omega arith) in
-    let w = valued_here v a st cells steps s n vars e a.address i keeps f.wide clean k.0 h1 in
-    let b = cells (value_at st vars e).bits in
-    let test_is : v y2.at ≡ flag b = i.cells_are y.terms y.at h2 w.width_is ∙ ap (λ (q : Bv). flag (cells q.bits)) w.value_is in
-    let q = fork_value v y2.terms c y2.at true b h3 z test_is in
-    let comes : Comes v (part s2 t g.by_then o g.by_other) (n + 1) (cond b t o) = part_one v s2 (n + 1) n t g.by_then o g.by_other b h (omega (arith, k.2)) (omega (arith, k.4)) (omega arith) (comes_later v s n n f.comes) q.then_is q.other_is in
-    let word_is : v s.word ≡ valued (width_at a.scope.vars x) (v s.word).bits = ap (λ (j : ℕ). record { width = width j; bits = (v s.word).bits }) (u refl ∙ sym (ap (λ (z : Option ℕ). unwrap_or z 1) k.1)) in
-    let wide = assign_wide v a s1 x g.by_then s.word word h4 k.1 (u refl) f.wide in
-    let made_on : b ≡ true → r = λ e.
-    on t (bound vars x (v s.word).bits) (omega (arith, k.2)) k.3 (record {
-      comes = subst (λ (d : Bool). Comes v (part s2 t g.by_then o g.by_other) (n + 1) (cond d t o)) e comes;
-      keeps = λ l. assign_true v a steps s1 x g.by_then s.word t (v s.word).bits vars h4 (q.then_is ∙ ap flag e) word_is
-          (λ j ne. ⊎_elim (λ (p : IsBound v (named a s) vars j). inl p) (λ (p : SomePath steps n j false). inr (extend steps n t j then (record { to = t; assigns = Some x }) (ap (λ (z : Option ActData). step_exit z then) at) refl k.2 ne p)) (keeps j));
-      wide = wide;
-    }) in
-    let left_on : b ≡ false → r = λ e.
-    on o vars (omega (arith, k.4)) k.5 (record {
-      comes = subst (λ (d : Bool). Comes v (part s2 t g.by_then o g.by_other) (n + 1) (cond d t o)) e comes;
-      keeps = λ l. assign_false v a steps s1 x g.by_then s.word o word vars h4 (q.then_is ∙ ap flag e) k.1 (u refl) f.wide
-          (keeps_on v a steps s n o vars other (ap (λ (z : Option ActData). step_exit z other) at) k.4 keeps);
-      wide = wide;
-    }) in
-    ⊎_elim made_on left_on (cases_Bool b)
-goes_on v a st cells word steps s n vars r (fault c) i at k clean u h f end on = absurd (false≢true (sym end))
-goes_on v a st cells word steps s n vars r (done e p) i at k clean u h f end on = absurd (false≢true (sym end))
+goes_on v a st cells word steps s n vars r (bind x e t) h end on =
+    let k = h.step in
+    on t (bound vars x (value_at st vars e).bits) (omega (arith, k.3)) k.4 (bind_follows v a st cells word steps s n vars x e t h)
+goes_on v a st cells word steps s n vars r (branch e t o) h end on =
+    let k = h.step in
+    let q = branch_follows v a st cells word steps s n vars e t o h in
+    ⊎_elim (λ (d : eqb (value_at st vars e).bits 1 ≡ true). on t vars (omega (arith, k.1)) k.2 (q.on_then d)) (λ (d : eqb (value_at st vars e).bits 1 ≡ false). on o vars (omega (arith, k.3)) k.4 (q.on_other d)) (cases_Bool (eqb (value_at st vars e).bits 1))
+goes_on v a st cells word steps s n vars r (read x e m t o) h end on =
+    let k = h.step in
+    let q = read_follows v a st cells word steps s n vars x e m t o h in
+    ⊎_elim (λ (d : cells (value_at st vars e).bits ≡ true). on t (bound vars x (v s.word).bits) (omega (arith, k.2)) k.3 (q.on_then d)) (λ (d : cells (value_at st vars e).bits ≡ false). on o vars (omega (arith, k.4)) k.5 (q.on_other d)) (cases_Bool (cells (value_at st vars e).bits))
+goes_on v a st cells word steps s n vars r (fault c) h end on = absurd (false≢true (sym end))
+goes_on v a st cells word steps s n vars r (done e p) h end on = absurd (false≢true (sym end))
 
 -- ---- the whole walk
 
@@ -444,17 +430,43 @@ told_first v a s (branch e t o) n = refl
 told_first v a s (fault c) n = refl
 told_first v a s (done e p) n = refl
 
+-- a node that the walk comes to, or goes by, before the rest of the nodes
+record IsCome (v : Valuation) (a : Access) (st : EnvData) (cells : ℕ → Bool) (word : ℕ) (steps : List ActData) (s : State) (n : ℕ) (vars : Vars) (p : ActData) : Type 0 where
+  here : IsHere v a st cells word steps (noted s n) n vars p
+  come : is_one (v (passed a (noted s n) n p).out.come) ≡ true
+
+record IsBy (v : Valuation) (a : Access) (steps : List ActData) (s : State) (n to : ℕ) (vars : Vars) (p : ActData) : Type 0 where
+  follows : Follows v a steps (passed a (noted s n) n p).state (n + 1) to vars
+  come : is_one (v (passed a (noted s n) n p).out.come) ≡ false
+
+goes_by : (v : Valuation) (a : Access) (st : EnvData) (cells : ℕ → Bool) (word : ℕ) (steps ps : List ActData) (p : ActData) (s : State) (n to : ℕ) (vars : Vars) → IsOf v a st cells → AreLeft a word steps (p ∷ ps) n → WordsWide v a word s (p ∷ ps) n
+    → IsLawful v (walk_placed a s (p ∷ ps) n).terms → (to ≡ n → ⊥) → Follows v a steps s n to vars → IsBy v a steps s n to vars p
+goes_by v a st cells word steps ps p s n to vars i left wide h ne f =
+    let q = passed a (noted s n) n p in
+    record {
+      follows = not_here v a st cells word (length steps) steps (noted s n) n to vars p i (left.sound n p (first_at a word steps ps p n left)) wide.0 (walk_before v a ps q.state (n + 1) h) ne (noted_follows v a steps s n to vars f);
+      come = ap (λ (j : ℕ). is_one (v j)) (told_first v a (noted s n) p n) ∙ ap is_one (come_false v s n to f.comes ne);
+    }
+
+comes_to : (v : Valuation) (a : Access) (st : EnvData) (cells : ℕ → Bool) (word : ℕ) (steps ps : List ActData) (p : ActData) (s : State) (n to : ℕ) (vars : Vars) → IsOf v a st cells → AreLeft a word steps (p ∷ ps) n → WordsWide v a word s (p ∷ ps) n
+    → IsLawful v (walk_placed a s (p ∷ ps) n).terms → to ≡ n → Follows v a steps s n to vars → IsCome v a st cells word steps s n vars p
+comes_to v a st cells word steps ps p s n to vars i left wide h same f =
+    let at = first_at a word steps ps p n left in
+    let fn : Follows v a steps s n n vars = subst (λ (j : ℕ). Follows v a steps s n j vars) same f in
+    record {
+      here = record { is_of = i; at = at; step = left.sound n p at; clean = left.clean n p at; word_wide = wide.0; lawful = walk_before v a ps (passed a (noted s n) n p).state (n + 1) h; follows = noted_follows v a steps s n n vars fn };
+      come = ap (λ (j : ℕ). is_one (v j)) (told_first v a (noted s n) p n) ∙ ap is_one (come_true v s n fn.comes);
+    }
+
 -- after its end the walk comes to no node
 pub over_none : (v : Valuation) (a : Access) (st : EnvData) (cells : ℕ → Bool) (word : ℕ) (steps ps : List ActData) (s : State) (n to : ℕ) (vars : Vars) → IsOf v a st cells → AreLeft a word steps ps n → WordsWide v a word s ps n
     → IsLawful v (walk_placed a s ps n).terms → to < n → Follows v a steps s n to vars → ((told v ps (walk_placed a s ps n).outs n).path ≡ []) × ((told v ps (walk_placed a s ps n).outs n).reads ≡ []) × ((told v ps (walk_placed a s ps n).outs n).sides ≡ [])
 over_none v a st cells word steps [] s n to vars i left wide h l f = (refl, refl, refl)
 over_none v a st cells word steps (p ∷ ps) s n to vars i left wide h l f =
     let q = passed a (noted s n) n p in
-    let at = first_at a word steps ps p n left in
-    let z : is_one (v q.out.come) ≡ false = ap (λ (j : ℕ). is_one (v j)) (told_first v a (noted s n) p n) ∙ ap is_one (come_false v s n to f.comes (λ e. omega arith)) in
-    let hq : IsLawful v q.state.terms = walk_before v a ps q.state (n + 1) h in
-    let g = not_here v a st cells word (length steps) steps (noted s n) n to vars p i (left.sound n p at) wide.0 hq (λ e. omega arith) (noted_follows v a steps s n to vars f) in
-    let d = over_none v a st cells word steps ps q.state (n + 1) to vars i (left_next a word steps ps p n left) wide.1 h (omega arith) g in
+    let by = goes_by v a st cells word steps ps p s n to vars i left wide h (λ e. omega (arith, e, l)) f in
+    let z : is_one (v q.out.come) ≡ false = by.come in
+    let d = over_none v a st cells word steps ps q.state (n + 1) to vars i (left_next a word steps ps p n left) wide.1 h (omega arith) by.follows in
     let rest = told v ps (walk_placed a q.state ps (n + 1)).outs (n + 1) in
     (ap (λ (b : Bool). (cond b (told_step v n p q.out rest) rest).path) z ∙ d.0, ap (λ (b : Bool). (cond b (told_step v n p q.out rest) rest).reads) z ∙ d.1, ap (λ (b : Bool). (cond b (told_step v n p q.out rest) rest).sides) z ∙ d.2)
 
@@ -469,23 +481,16 @@ walk_told v a st cells word steps (p ∷ ps) s n to vars i left wide h l m f =
     by_place : ((to2 : ℕ) (vars2 : Vars) → n + 1 ≤ to2 → to2 < length steps → Follows v a steps (passed a (noted s n) n p).state (n + 1) to2 vars2 → walk_with st cells (words_of v (walk_placed a (passed a (noted s n) n p).state ps (n + 1)).outs) ps (n + 1) to2 vars2 ≡ told v ps (walk_placed a (passed a (noted s n) n p).state ps (n + 1)).outs (n + 1)) → (eqb n to ≡ true) ⊎ (eqb n to ≡ false) → walk_with st cells (words_of v (walk_placed a s (p ∷ ps) n).outs) (p ∷ ps) n to vars ≡ told v (p ∷ ps) (walk_placed a s (p ∷ ps) n).outs n
     by_place ih (inr e) =
         let q = passed a (noted s n) n p in
-        let at = first_at a word steps ps p n left in
         let ne : to ≡ n → ⊥ = λ z. eqb-false n to e (sym z) in
-        let z : is_one (v q.out.come) ≡ false = ap (λ (j : ℕ). is_one (v j)) (told_first v a (noted s n) p n) ∙ ap is_one (come_false v s n to f.comes ne) in
-        let hq : IsLawful v q.state.terms = walk_before v a ps q.state (n + 1) h in
-        let g = not_here v a st cells word (length steps) steps (noted s n) n to vars p i (left.sound n p at) wide.0 hq ne (noted_follows v a steps s n to vars f) in
+        let by = goes_by v a st cells word steps ps p s n to vars i left wide h ne f in
         let r = walk_placed a q.state ps (n + 1) in
         let rest = told v ps r.outs (n + 1) in
         let go = walk_with st cells (words_of v r.outs) ps (n + 1) in
-        let d = ih to vars (omega (arith, l, ne)) m g in
-        ap (λ (b : Bool). cond b (acted_with st cells (v q.out.word).bits n p go vars) (go to vars)) e ∙ d ∙ sym (ap (λ (b : Bool). cond b (told_step v n p q.out rest) rest) z)
+        let d = ih to vars (omega (arith, l, ne)) m by.follows in
+        ap (λ (b : Bool). cond b (acted_with st cells (v q.out.word).bits n p go vars) (go to vars)) e ∙ d ∙ sym (ap (λ (b : Bool). cond b (told_step v n p q.out rest) rest) by.come)
     by_place ih (inl e) =
         let q = passed a (noted s n) n p in
-        let at = first_at a word steps ps p n left in
-        let same : to ≡ n = sym (eqb-true n to e) in
-        let fn : Follows v a steps s n n vars = subst (λ (j : ℕ). Follows v a steps s n j vars) same f in
-        let z : is_one (v q.out.come) ≡ true = ap (λ (j : ℕ). is_one (v j)) (told_first v a (noted s n) p n) ∙ ap is_one (come_true v s n fn.comes) in
-        let hq : IsLawful v q.state.terms = walk_before v a ps q.state (n + 1) h in
+        let c = comes_to v a st cells word steps ps p s n to vars i left wide h (sym (eqb-true n to e)) f in
         let r = walk_placed a q.state ps (n + 1) in
         let rest = told v ps r.outs (n + 1) in
         let go = walk_with st cells (words_of v r.outs) ps (n + 1) in
@@ -494,8 +499,8 @@ walk_told v a st cells word steps (p ∷ ps) s n to vars i left wide h l m f =
           over = λ vars2 g. over_none v a st cells word steps ps q.state (n + 1) n vars2 i (left_next a word steps ps p n left) wide.1 h (omega arith) g;
         } in
         ap (λ (b : Bool). cond b (acted_with st cells (v q.out.word).bits n p go vars) (go to vars)) e
-        ∙ here v a st cells word steps (noted s n) n vars go rest p i at (left.sound n p at) (left.clean n p at) wide.0 hq (noted_follows v a steps s n n vars fn) on
-        ∙ sym (ap (λ (b : Bool). cond b (told_step v n p q.out rest) rest) z)
+        ∙ here v a st cells word steps (noted s n) n vars go rest p c.here on
+        ∙ sym (ap (λ (b : Bool). cond b (told_step v n p q.out rest) rest) c.come)
 
 -- ---- the end
 
@@ -549,38 +554,27 @@ ends_once v a st cells word steps (p ∷ ps) s n to vars i left wide h l m f =
         → (eqb n to ≡ true) ⊎ (eqb n to ≡ false) → (is_end p ≡ true) ⊎ (is_end p ≡ false) → EndsOnce v (p ∷ ps) (walk_placed a s (p ∷ ps) n).outs (told v (p ∷ ps) (walk_placed a s (p ∷ ps) n).outs n).end
     by_place ih (inr e) x =
         let q = passed a (noted s n) n p in
-        let at = first_at a word steps ps p n left in
         let ne : to ≡ n → ⊥ = λ z. eqb-false n to e (sym z) in
-        let z : is_one (v q.out.come) ≡ false = ap (λ (j : ℕ). is_one (v j)) (told_first v a (noted s n) p n) ∙ ap is_one (come_false v s n to f.comes ne) in
-        let hq : IsLawful v q.state.terms = walk_before v a ps q.state (n + 1) h in
-        let g = not_here v a st cells word (length steps) steps (noted s n) n to vars p i (left.sound n p at) wide.0 hq ne (noted_follows v a steps s n to vars f) in
+        let by = goes_by v a st cells word steps ps p s n to vars i left wide h ne f in
         let r = walk_placed a q.state ps (n + 1) in
         let rest = told v ps r.outs (n + 1) in
         inr (
-          ap (λ (b : Bool). is_end p && b) z ∙ and_right (is_end p) false refl,
-          subst (λ (b : Bool). EndsOnce v ps r.outs (cond b (told_step v n p q.out rest) rest).end) (sym z) (ih to vars (omega (arith, l, ne)) m g),
+          ap (λ (b : Bool). is_end p && b) by.come ∙ and_right (is_end p) false refl,
+          subst (λ (b : Bool). EndsOnce v ps r.outs (cond b (told_step v n p q.out rest) rest).end) (sym by.come) (ih to vars (omega (arith, l, ne)) m by.follows),
         )
     by_place ih (inl e) (inl x) =
         let q = passed a (noted s n) n p in
-        let at = first_at a word steps ps p n left in
-        let same : to ≡ n = sym (eqb-true n to e) in
-        let fn : Follows v a steps s n n vars = subst (λ (j : ℕ). Follows v a steps s n j vars) same f in
-        let z : is_one (v q.out.come) ≡ true = ap (λ (j : ℕ). is_one (v j)) (told_first v a (noted s n) p n) ∙ ap is_one (come_true v s n fn.comes) in
-        let hq : IsLawful v q.state.terms = walk_before v a ps q.state (n + 1) h in
+        let c = comes_to v a st cells word steps ps p s n to vars i left wide h (sym (eqb-true n to e)) f in
         let r = walk_placed a q.state ps (n + 1) in
         let rest = told v ps r.outs (n + 1) in
-        let none : rest.path ≡ [] = (over_none v a st cells word steps ps q.state (n + 1) n vars i (left_next a word steps ps p n left) wide.1 h (omega arith) (over_end v a st cells word steps (noted s n) n vars p (noted_follows v a steps s n n vars fn) x)).0 in
-        subst (λ (b : Bool). EndsOnce v (p ∷ ps) (q.out ∷ r.outs) (cond b (told_step v n p q.out rest) rest).end) (sym z)
-        (inl (z, end_told v n p q.out rest x, none_told v ps r.outs (n + 1) none))
+        let none : rest.path ≡ [] = (over_none v a st cells word steps ps q.state (n + 1) n vars i (left_next a word steps ps p n left) wide.1 h (omega arith) (over_end v a st cells word steps (noted s n) n vars p c.here.follows x)).0 in
+        subst (λ (b : Bool). EndsOnce v (p ∷ ps) (q.out ∷ r.outs) (cond b (told_step v n p q.out rest) rest).end) (sym c.come)
+        (inl (c.come, end_told v n p q.out rest x, none_told v ps r.outs (n + 1) none))
     by_place ih (inl e) (inr x) =
         let q = passed a (noted s n) n p in
-        let at = first_at a word steps ps p n left in
-        let same : to ≡ n = sym (eqb-true n to e) in
-        let fn : Follows v a steps s n n vars = subst (λ (j : ℕ). Follows v a steps s n j vars) same f in
-        let z : is_one (v q.out.come) ≡ true = ap (λ (j : ℕ). is_one (v j)) (told_first v a (noted s n) p n) ∙ ap is_one (come_true v s n fn.comes) in
-        let hq : IsLawful v q.state.terms = walk_before v a ps q.state (n + 1) h in
+        let c = comes_to v a st cells word steps ps p s n to vars i left wide h (sym (eqb-true n to e)) f in
         let r = walk_placed a q.state ps (n + 1) in
         let rest = told v ps r.outs (n + 1) in
-        let later : EndsOnce v ps r.outs rest.end = goes_on v a st cells word steps (noted s n) n vars (EndsOnce v ps r.outs rest.end) p i at (left.sound n p at) (left.clean n p at) wide.0 hq (noted_follows v a steps s n n vars fn) x ih in
-        subst (λ (b : Bool). EndsOnce v (p ∷ ps) (q.out ∷ r.outs) (cond b (told_step v n p q.out rest) rest).end) (sym z)
+        let later : EndsOnce v ps r.outs rest.end = goes_on v a st cells word steps (noted s n) n vars (EndsOnce v ps r.outs rest.end) p c.here x ih in
+        subst (λ (b : Bool). EndsOnce v (p ∷ ps) (q.out ∷ r.outs) (cond b (told_step v n p q.out rest) rest).end) (sym c.come)
         (inr (and_left (is_end p) _ x, subst (λ (d : End). EndsOnce v ps r.outs d) (sym (end_later v n p q.out rest x)) later))

@@ -1,41 +1,39 @@
 -- The forms of pages and tables hold exactly where no page is on a table.
-use Rattle.std.proofs.Common.{◌≡◌, ℕ, suc, ◌+◌, ◌/◌, ◌<◌, ◌≤◌, ◌^◌, Bool, true, false, cond, not, ◌&&◌, ◌||◌, eqb, List, [], ◌∷◌, ◌++◌, length, map, Option, Some, inl, inr, refl, sym, ap, ◌∙◌, subst, arith}
+use Rattle.std.proofs.Common.{◌≡◌, ℕ, suc, ◌+◌, ◌/◌, ◌<◌, ◌^◌, Bool, true, false, cond, not, ◌&&◌, ◌||◌, eqb, List, [], ◌∷◌, ◌++◌, map, Option, Some, refl, sym, ap, ◌∙◌, subst, arith}
 use Rattle.std.specs.Prelude.{slice_get, max}
-use Rattle.std.specs.List.{flat_map, list_any, AllByRecursion}
-use Rattle.std.specs.Option.{option_to_list}
+use Rattle.std.specs.List.{flat_map, list_any, list_all, AllByRecursion}
 use Rattle.std.proofs.lemmas.Bool.{false≢true}
+use Rattle.dt_lemmas.proofs.Lists.{AllByRecursion-append}
 use Rattle.dt_bits.specs.Memory.{Memory}
 use Rattle.dt_model.specs.ModelData.{ModelData, ActData, bind, read, branch, fault, done}
 use Rattle.dt_model.specs.Faults.{steps}
-use Rattle.dt_request.specs.declared.list.AccessWish.{AccessWish}
 use Rattle.dt_request.specs.declared.list.Requests.{Requests}
 use Rattle.dt_walk.specs.declared.run.ReadMade.{ReadMade}
 use Rattle.dt_walk.specs.Walks.{RunData}
 use Rattle.dt_satisfy.specs.declared.block.Block.{Block}
 use Rattle.dt_satisfy.specs.Blocks.{block_at, overlap, are_apart}
-use Rattle.dt_satisfy.specs.Links.{page_of, pages_of, step_granule, table_of, tables_of}
+use Rattle.dt_satisfy.specs.Links.{pages_of, step_granule, table_of, tables_of, is_apart}
 use Rattle.dt_satisfy.specs.Claims.{runs_of, apart_claim}
 use Rattle.dt_forms.specs.Meaning.{Valuation, flag, is_one}
 use Rattle.dt_forms.specs.Forms.{Form, term, form_value, both_of}
 use Rattle.dt_encode.specs.Passing.{Access, Out}
 use Rattle.dt_encode.specs.Told.{told, told_step, made_if}
-use Rattle.dt_encode.specs.Apart.{same_block, apart_form, Sized, pages_at, tables_at, apart_forms}
+use Rattle.dt_encode.specs.Apart.{same_block, apart_form, Sized, pages_at, tables_at}
 use Rattle.dt_encode.specs.Table.{page_forms, list_access}
 use Rattle.dt_forms.proofs.Lawful.{flag_one}
 use Rattle.dt_forms.proofs.FormValues.{not_form, both_form}
-use Rattle.dt_forms.specs.Claims.{Hold}
+use Rattle.dt_forms.proofs.Tells.{Tells, none_tells, more_tell, tells_as, both_tell}
 use Rattle.dt_encode.proofs.Blocks.{start_quotient, same_block_value}
-use Rattle.dt_encode.proofs.Ends.{NoEnd, EndsOnce}
-use Rattle.dt_encode.proofs.Ready.{IsReady, AreSet, Fits}
-use Rattle.dt_encode.proofs.Composed.{all_join, all_split, ArePlaced}
+use Rattle.dt_encode.proofs.Results.{made_from, come_of, page_told}
+use Rattle.dt_encode.proofs.Ready.{AreSet}
 use Rattle.dt_encode.proofs.Flagged.{AllOuts, IsFlagged, is_flag}
-use Rattle.dt_encode.proofs.Told.{AtAccess, placed_flagged, placed_ends}
+use Rattle.dt_encode.proofs.Told.{AllNodes, same_if, reads_if}
 use Rattle.dt_encode.proofs.Claimed.{seen, HaveContexts, AllTold, runs_told}
+use Rattle.dt_encode.proofs.NodeKinds.{pages_have, tables_have}
 
--- the blocks of the nodes whose term is 1
+-- the blocks of these nodes
 abbrev pub blocks_made : Valuation → (Out → ℕ) → List Sized → List Block
-blocks_made v key [] = []
-blocks_made v key (x ∷ xs) = cond (is_one (v (key x.out))) (block_at (v x.out.value).bits x.exponent ∷ blocks_made v key xs) (blocks_made v key xs)
+blocks_made v key xs = made_from block_at v key xs
 
 blocks_append : (v : Valuation) (key : Out → ℕ) (xs ys : List Sized) → blocks_made v key (xs ++ ys) ≡ blocks_made v key xs ++ blocks_made v key ys
 blocks_append v key [] ys = refl
@@ -46,77 +44,10 @@ blocks_append v key (x ∷ xs) ys = by_made (is_one (v (key x.out))) (blocks_app
     by_made true e = ap (λ (l : List Block). block_at (v x.out.value).bits x.exponent ∷ l) e
     by_made false e = e
 
-abbrev pub come_of : Out → ℕ
-come_of o = o.come
-
 abbrev pub then_of : Out → ℕ
 then_of o = o.by_then
 
--- ---- pages
-
-no_pages : (v : Valuation) (ps : List ActData) (os : List Out) → NoEnd v ps os → blocks_made v come_of (pages_at ps os) ≡ []
-no_pages v [] os h = refl
-no_pages v (bind x e to ∷ ps) [] h = refl
-no_pages v (read x e g t f ∷ ps) [] h = refl
-no_pages v (branch e t f ∷ ps) [] h = refl
-no_pages v (fault c ∷ ps) [] h = refl
-no_pages v (done e p ∷ ps) [] h = refl
-no_pages v (bind x e to ∷ ps) (o ∷ os) h = no_pages v ps os h.1
-no_pages v (read x e g t f ∷ ps) (o ∷ os) h = no_pages v ps os h.1
-no_pages v (branch e t f ∷ ps) (o ∷ os) h = no_pages v ps os h.1
-no_pages v (fault c ∷ ps) (o ∷ os) h = no_pages v ps os h.1
-no_pages v (done e p ∷ ps) (o ∷ os) h = ap (λ (b : Bool). cond b (block_at (v o.value).bits p ∷ blocks_made v come_of (pages_at ps os)) (blocks_made v come_of (pages_at ps os))) h.0 ∙ no_pages v ps os h.1
-
-same_end : (b : Bool) (x y : RunData) → x.end ≡ y.end → (cond b x y).end ≡ y.end
-same_end true x y e = e
-same_end false x y e = refl
-
-abbrev PageTold : Valuation → List ActData → List Out → ℕ → Type 0
-PageTold v ps os n = option_to_list (page_of (told v ps os n).end) ≡ blocks_made v come_of (pages_at ps os)
-
--- a node that isn't the end
-pass_on : (v : Valuation) (p : ActData) (ps : List ActData) (o : Out) (os : List Out) (n : ℕ) → (told v (p ∷ ps) (o ∷ os) n).end ≡ (told v ps os (n + 1)).end → pages_at (p ∷ ps) (o ∷ os) ≡ pages_at ps os
-    → (EndsOnce v ps os (told v ps os (n + 1)).end → PageTold v ps os (n + 1)) → EndsOnce v ps os (told v (p ∷ ps) (o ∷ os) n).end → PageTold v (p ∷ ps) (o ∷ os) n
-pass_on v p ps o os n e f ih h =
-    ap (λ x. option_to_list (page_of x)) e ∙ ih (subst (λ x. EndsOnce v ps os x) e h) ∙ ap (blocks_made v come_of) (sym f)
-
-page_told : (v : Valuation) (ps : List ActData) (os : List Out) (n : ℕ) → EndsOnce v ps os (told v ps os n).end → PageTold v ps os n
-page_told v [] os n h = absurd h
-page_told v (p ∷ ps) [] n h = absurd h
-page_told v (bind x e to ∷ ps) (o ∷ os) n (inl h) = absurd h.1
-page_told v (bind x e to ∷ ps) (o ∷ os) n (inr h) = pass_on v (bind x e to) ps o os n (same_end (is_one (v o.come)) (told_step v n (bind x e to) o (told v ps os (n + 1))) (told v ps os (n + 1)) refl) refl (λ g. page_told v ps os (n + 1) g) h.1
-page_told v (read x e g t f ∷ ps) (o ∷ os) n (inl h) = absurd h.1
-page_told v (read x e g t f ∷ ps) (o ∷ os) n (inr h) = pass_on v (read x e g t f) ps o os n (same_end (is_one (v o.come)) (told_step v n (read x e g t f) o (told v ps os (n + 1))) (told v ps os (n + 1)) refl) refl (λ g. page_told v ps os (n + 1) g) h.1
-page_told v (branch e t f ∷ ps) (o ∷ os) n (inl h) = absurd h.1
-page_told v (branch e t f ∷ ps) (o ∷ os) n (inr h) = pass_on v (branch e t f) ps o os n (same_end (is_one (v o.come)) (told_step v n (branch e t f) o (told v ps os (n + 1))) (told v ps os (n + 1)) refl) refl (λ g. page_told v ps os (n + 1) g) h.1
-page_told v (fault c ∷ ps) (o ∷ os) n (inl h) =
-    let r = told v ps os (n + 1) in
-    ap (λ (b : Bool). option_to_list (page_of (cond b (told_step v n (fault c) o r) r).end)) h.0 ∙ sym (no_pages v ps os h.2)
-page_told v (fault c ∷ ps) (o ∷ os) n (inr h) =
-    let r = told v ps os (n + 1) in
-    pass_on v (fault c) ps o os n (ap (λ (b : Bool). (cond b (told_step v n (fault c) o r) r).end) h.0) refl (λ g. page_told v ps os (n + 1) g) h.1
-page_told v (done e p ∷ ps) (o ∷ os) n (inl h) =
-    let r = told v ps os (n + 1) in
-    let rest = blocks_made v come_of (pages_at ps os) in
-    ap (λ (b : Bool). option_to_list (page_of (cond b (told_step v n (done e p) o r) r).end)) h.0
-    ∙ ap (λ (l : List Block). block_at (v o.value).bits p ∷ l) (sym (no_pages v ps os h.2))
-    ∙ sym (ap (λ (b : Bool). cond b (block_at (v o.value).bits p ∷ rest) rest) h.0)
-page_told v (done e p ∷ ps) (o ∷ os) n (inr h) =
-    let r = told v ps os (n + 1) in
-    let rest = blocks_made v come_of (pages_at ps os) in
-    let q : (told v (done e p ∷ ps) (o ∷ os) n).end ≡ r.end = ap (λ (b : Bool). (cond b (told_step v n (done e p) o r) r).end) h.0 in
-    ap (λ x. option_to_list (page_of x)) q ∙ page_told v ps os (n + 1) (subst (λ x. EndsOnce v ps os x) q h.1)
-    ∙ sym (ap (λ (b : Bool). cond b (block_at (v o.value).bits p ∷ rest) rest) h.0)
-
 -- ---- tables
-
-same_reads : (b : Bool) (x y : RunData) → x.reads ≡ y.reads → (cond b x y).reads ≡ y.reads
-same_reads true x y e = e
-same_reads false x y e = refl
-
-reads_if : (b : Bool) (x y : RunData) → (cond b x y).reads ≡ cond b x.reads y.reads
-reads_if true x y = refl
-reads_if false x y = refl
 
 table_if : (c b : Bool) (f : ReadMade → Block) (x : ReadMade) (block : Block) (rest : List ReadMade) (blocks : List Block) → (b ≡ true → c ≡ true) → f x ≡ block → map f rest ≡ blocks
     → map f (cond c (made_if b x rest) rest) ≡ cond b (block ∷ blocks) blocks
@@ -141,10 +72,10 @@ tables_told v address all (read x e g t f ∷ ps) [] n at h = refl
 tables_told v address all (branch e t f ∷ ps) [] n at h = refl
 tables_told v address all (fault c ∷ ps) [] n at h = refl
 tables_told v address all (done e p ∷ ps) [] n at h = refl
-tables_told v address all (bind x e to ∷ ps) (o ∷ os) n at h = let r = told v ps os (n + 1) in ap (map (table_of all)) (same_reads (is_one (v o.come)) (told_step v n (bind x e to) o r) r refl) ∙ tables_told v address all ps os (n + 1) (at_next all ps (bind x e to) n at) h.1
-tables_told v address all (branch e t f ∷ ps) (o ∷ os) n at h = let r = told v ps os (n + 1) in ap (map (table_of all)) (same_reads (is_one (v o.come)) (told_step v n (branch e t f) o r) r refl) ∙ tables_told v address all ps os (n + 1) (at_next all ps (branch e t f) n at) h.1
-tables_told v address all (fault c ∷ ps) (o ∷ os) n at h = let r = told v ps os (n + 1) in ap (map (table_of all)) (same_reads (is_one (v o.come)) (told_step v n (fault c) o r) r refl) ∙ tables_told v address all ps os (n + 1) (at_next all ps (fault c) n at) h.1
-tables_told v address all (done e p ∷ ps) (o ∷ os) n at h = let r = told v ps os (n + 1) in ap (map (table_of all)) (same_reads (is_one (v o.come)) (told_step v n (done e p) o r) r refl) ∙ tables_told v address all ps os (n + 1) (at_next all ps (done e p) n at) h.1
+tables_told v address all (bind x e to ∷ ps) (o ∷ os) n at h = let r = told v ps os (n + 1) in ap (map (table_of all)) (same_if (is_one (v o.come)) (told_step v n (bind x e to) o r) r refl) ∙ tables_told v address all ps os (n + 1) (at_next all ps (bind x e to) n at) h.1
+tables_told v address all (branch e t f ∷ ps) (o ∷ os) n at h = let r = told v ps os (n + 1) in ap (map (table_of all)) (same_if (is_one (v o.come)) (told_step v n (branch e t f) o r) r refl) ∙ tables_told v address all ps os (n + 1) (at_next all ps (branch e t f) n at) h.1
+tables_told v address all (fault c ∷ ps) (o ∷ os) n at h = let r = told v ps os (n + 1) in ap (map (table_of all)) (same_if (is_one (v o.come)) (told_step v n (fault c) o r) r refl) ∙ tables_told v address all ps os (n + 1) (at_next all ps (fault c) n at) h.1
+tables_told v address all (done e p ∷ ps) (o ∷ os) n at h = let r = told v ps os (n + 1) in ap (map (table_of all)) (same_if (is_one (v o.come)) (told_step v n (done e p) o r) r refl) ∙ tables_told v address all ps os (n + 1) (at_next all ps (done e p) n at) h.1
 tables_told v address all (read x e g t f ∷ ps) (o ∷ os) n at h =
     let r = told v ps os (n + 1) in
     let z : n + 0 ≡ n = omega arith in
@@ -159,31 +90,11 @@ tables_told v address all (read x e g t f ∷ ps) (o ∷ os) n at h =
 abbrev pub IsBlock : Valuation → ℕ → (Out → ℕ) → Sized → Type 0
 IsBlock v address key x = is_flag v (key x.out) × ((v x.out.value).width.0 ≡ address)
 
-pages_flagged : (v : Valuation) (address : ℕ) (ps : List ActData) (os : List Out) → AllOuts (IsFlagged v address) ps os → AllByRecursion (IsBlock v address come_of) (pages_at ps os)
-pages_flagged v address [] os h = tt
-pages_flagged v address (bind x e to ∷ ps) [] h = tt
-pages_flagged v address (read x e g t f ∷ ps) [] h = tt
-pages_flagged v address (branch e t f ∷ ps) [] h = tt
-pages_flagged v address (fault c ∷ ps) [] h = tt
-pages_flagged v address (done e p ∷ ps) [] h = tt
-pages_flagged v address (bind x e to ∷ ps) (o ∷ os) h = pages_flagged v address ps os h.1
-pages_flagged v address (read x e g t f ∷ ps) (o ∷ os) h = pages_flagged v address ps os h.1
-pages_flagged v address (branch e t f ∷ ps) (o ∷ os) h = pages_flagged v address ps os h.1
-pages_flagged v address (fault c ∷ ps) (o ∷ os) h = pages_flagged v address ps os h.1
-pages_flagged v address (done e p ∷ ps) (o ∷ os) h = ((h.0.come_is, h.0.wide refl), pages_flagged v address ps os h.1)
+pub pages_flagged : (v : Valuation) (address : ℕ) (ps : List ActData) (os : List Out) → AllOuts (IsFlagged v address) ps os → AllByRecursion (IsBlock v address come_of) (pages_at ps os)
+pages_flagged v address ps os h = pages_have (IsFlagged v address) (IsBlock v address come_of) (λ e p o k. (k.come_is, k.wide refl)) ps os h
 
 tables_flagged : (v : Valuation) (address : ℕ) (ps : List ActData) (os : List Out) → AllOuts (IsFlagged v address) ps os → AllByRecursion (IsBlock v address then_of) (tables_at ps os)
-tables_flagged v address [] os h = tt
-tables_flagged v address (bind x e to ∷ ps) [] h = tt
-tables_flagged v address (read x e g t f ∷ ps) [] h = tt
-tables_flagged v address (branch e t f ∷ ps) [] h = tt
-tables_flagged v address (fault c ∷ ps) [] h = tt
-tables_flagged v address (done e p ∷ ps) [] h = tt
-tables_flagged v address (bind x e to ∷ ps) (o ∷ os) h = tables_flagged v address ps os h.1
-tables_flagged v address (branch e t f ∷ ps) (o ∷ os) h = tables_flagged v address ps os h.1
-tables_flagged v address (fault c ∷ ps) (o ∷ os) h = tables_flagged v address ps os h.1
-tables_flagged v address (done e p ∷ ps) (o ∷ os) h = tables_flagged v address ps os h.1
-tables_flagged v address (read x e g t f ∷ ps) (o ∷ os) h = ((h.0.then_is, h.0.wide refl), tables_flagged v address ps os h.1)
+tables_flagged v address ps os h = tables_have (IsFlagged v address) (IsBlock v address then_of) (λ x e g t f o k. (k.then_is, k.wide refl)) ps os h
 
 -- the pages and tables of all runs, with what holds of their terms
 pub record AreBlocks (v : Valuation) (d : ModelData) (oss : List (List Out)) : Type 0 where
@@ -192,24 +103,19 @@ pub record AreBlocks (v : Valuation) (d : ModelData) (oss : List (List Out)) : T
   pub page_is : AllByRecursion (IsBlock v d.address come_of) (flat_map (pages_at (steps d)) oss)
   pub table_is : AllByRecursion (IsBlock v d.address then_of) (flat_map (tables_at (steps d)) oss)
 
-pub all_blocks : (v : Valuation) (d : ModelData) (r : Requests) (m : Memory) (wishes : List AccessWish) (oss : List (List Out)) (k : ℕ) → IsReady d → AreSet v d r → Fits d r m → HaveContexts r wishes → k + length wishes ≤ length r.accesses
-    → ArePlaced v d r k wishes oss → AreBlocks v d oss
-all_blocks v d r m [] [] k ready set fits c l p = record { pages = refl; tables = refl; page_is = tt; table_is = tt }
-all_blocks v d r m [] (os ∷ oss) k ready set fits c l p = absurd p
-all_blocks v d r m (a ∷ more) [] k ready set fits c l p = absurd p
-all_blocks v d r m (a ∷ more) (os ∷ oss) k ready set fits c l p =
-    let h : AtAccess v d r k a m = record { ready = ready; set = set; context = c.0; access = omega (arith, l); fits = fits } in
-    let rest = all_blocks v d r m more oss (k + 1) ready set fits c.1 (omega (arith, l)) p.1 in
-    let flags = placed_flagged v d r k a m os h p.0 in
-    let run = told v (steps d) os 0 in
+pub all_blocks : (v : Valuation) (d : ModelData) (oss : List (List Out)) → AllNodes v d oss → AreBlocks v d oss
+all_blocks v d [] h = record { pages = refl; tables = refl; page_is = tt; table_is = tt }
+all_blocks v d (os ∷ oss) h =
+    let rest = all_blocks v d oss h.1 in
+    let flags = h.0.flagged in
     let runs = map (λ os. told v (steps d) os 0) oss in
-    let one_page = page_told v (steps d) os 0 (placed_ends v d r k a m os h p.0) in
+    let one_page = page_told block_at v (steps d) os 0 h.0.ends in
     let one_table = tables_told v d.address (steps d) (steps d) os 0 (λ j q x. let z : j ≡ 0 + j = omega arith in subst (λ (i : ℕ). slice_get (steps d) i ≡ Some q) z x) flags in
     record {
       pages = ap (λ (l : List Block). l ++ pages_of runs) one_page ∙ ap (λ (l : List Block). blocks_made v come_of (pages_at (steps d) os) ++ l) rest.pages ∙ sym (blocks_append v come_of (pages_at (steps d) os) (flat_map (pages_at (steps d)) oss));
       tables = ap (λ (l : List Block). l ++ tables_of (steps d) runs) one_table ∙ ap (λ (l : List Block). blocks_made v then_of (tables_at (steps d) os) ++ l) rest.tables ∙ sym (blocks_append v then_of (tables_at (steps d) os) (flat_map (tables_at (steps d)) oss));
-      page_is = all_join _ (pages_at (steps d) os) (flat_map (pages_at (steps d)) oss) (pages_flagged v d.address (steps d) os flags) rest.page_is;
-      table_is = all_join _ (tables_at (steps d) os) (flat_map (tables_at (steps d)) oss) (tables_flagged v d.address (steps d) os flags) rest.table_is;
+      page_is = AllByRecursion-append _ (pages_at (steps d) os) (flat_map (pages_at (steps d)) oss) (pages_flagged v d.address (steps d) os flags) rest.page_is;
+      table_is = AllByRecursion-append _ (tables_at (steps d) os) (flat_map (tables_at (steps d)) oss) (tables_flagged v d.address (steps d) os flags) rest.table_is;
     }
 
 -- ---- forms
@@ -217,121 +123,127 @@ all_blocks v d r m (a ∷ more) (os ∷ oss) k ready set fits c l p =
 abbrev pub block_of : Valuation → Sized → Block
 block_of v x = block_at (v x.out.value).bits x.exponent
 
-overlap_is : (v : Valuation) (p t : Sized) → overlap (block_of v p) (block_of v t) ≡ eqb ((v p.out.value).bits / 2 ^ max p.exponent t.exponent) ((v t.out.value).bits / 2 ^ max p.exponent t.exponent)
-overlap_is v p t =
-    let m = max p.exponent t.exponent in
-    ap (λ (n : ℕ). eqb n ((block_of v t).start / 2 ^ m)) (start_quotient (v p.out.value).bits p.exponent m (omega arith))
-    ∙ ap (λ (n : ℕ). eqb ((v p.out.value).bits / 2 ^ m) n) (start_quotient (v t.out.value).bits t.exponent m (omega arith))
+overlap_is : (v : Valuation) (x y : Sized) → overlap (block_of v x) (block_of v y) ≡ eqb ((v x.out.value).bits / 2 ^ max x.exponent y.exponent) ((v y.out.value).bits / 2 ^ max x.exponent y.exponent)
+overlap_is v x y =
+    let m = max x.exponent y.exponent in
+    ap (λ (n : ℕ). eqb n ((block_of v y).start / 2 ^ m)) (start_quotient (v x.out.value).bits x.exponent m (omega arith))
+    ∙ ap (λ (n : ℕ). eqb ((v x.out.value).bits / 2 ^ m) n) (start_quotient (v y.out.value).bits y.exponent m (omega arith))
 
-apart_value : (v : Valuation) (a : Access) (p t : Sized) → v a.one_term ≡ flag true → ((n : ℕ) → (v n).bits < 2 ^ (v n).width.0) → IsBlock v a.address come_of p → IsBlock v a.address then_of t
-    → is_one (form_value v (apart_form a p.exponent t.exponent p.out t.out)) ≡ not ((is_one (v p.out.come) && is_one (v t.out.by_then)) && overlap (block_of v p) (block_of v t))
-apart_value v a p t one range h k =
-    let m = max p.exponent t.exponent in
-    let both = both_of (term p.out.come) (term t.out.by_then) in
-    let block = same_block a m p.out.value t.out.value in
-    let lp = subst (λ (w : ℕ). (v p.out.value).bits < 2 ^ w) h.1 (range p.out.value) in
-    let lt = subst (λ (w : ℕ). (v t.out.value).bits < 2 ^ w) k.1 (range t.out.value) in
-    let same = eqb ((v p.out.value).bits / 2 ^ m) ((v t.out.value).bits / 2 ^ m) in
-    ap is_one (not_form v (both_of both block) ((is_one (v p.out.come) && is_one (v t.out.by_then)) && same)
-    (both_form v both block (is_one (v p.out.come) && is_one (v t.out.by_then)) same (both_form v (term p.out.come) (term t.out.by_then) (is_one (v p.out.come)) (is_one (v t.out.by_then)) h.0 k.0)
-    (same_block_value v a m p.out.value t.out.value one lp lt)))
-    ∙ flag_one (not ((is_one (v p.out.come) && is_one (v t.out.by_then)) && same))
-    ∙ ap (λ (b : Bool). not ((is_one (v p.out.come) && is_one (v t.out.by_then)) && b)) (sym (overlap_is v p t))
+-- what is asked of values: the constant 1, and that numbers have their widths
+pub record AreFit (v : Valuation) (a : Access) : Type 0 where
+  pub one_is : v a.one_term ≡ flag true
+  pub zero_is : v a.zero_term ≡ flag false
+  pub range : (t : ℕ) → (v t).bits < 2 ^ (v t).width.0
 
-abbrev row : Access → Sized → List Sized → List Form
-row a p tables = map (λ (t : Sized). apart_form a p.exponent t.exponent p.out t.out) tables
+-- the form of two blocks tells whether they overlap
+pub blocks_value : (v : Valuation) (a : Access) (x y : Sized) → AreFit v a → (v x.out.value).width.0 ≡ a.address → (v y.out.value).width.0 ≡ a.address
+    → form_value v (same_block a (max x.exponent y.exponent) x.out.value y.out.value) ≡ flag (overlap (block_of v x) (block_of v y))
+blocks_value v a x y fit h k =
+    let l = subst (λ (w : ℕ). (v x.out.value).bits < 2 ^ w) h (fit.range x.out.value) in
+    let m = subst (λ (w : ℕ). (v y.out.value).bits < 2 ^ w) k (fit.range y.out.value) in
+    same_block_value v a (max x.exponent y.exponent) x.out.value y.out.value fit.one_is l m ∙ ap flag (sym (overlap_is v x y))
 
-row_holds : (v : Valuation) (a : Access) (p : Sized) (ts : List Sized) → v a.one_term ≡ flag true → ((n : ℕ) → (v n).bits < 2 ^ (v n).width.0) → IsBlock v a.address come_of p → AllByRecursion (IsBlock v a.address then_of) ts
-    → Hold v (row a p ts) → is_one (v p.out.come) ≡ true → list_any (overlap (block_of v p)) (blocks_made v then_of ts) ≡ false
-row_holds v a p [] one range h k g c = refl
-row_holds v a p (t ∷ ts) one range h k g c = by_made (is_one (v t.out.by_then)) refl (row_holds v a p ts one range h k.1 g.1 c)
+pub apart_value : (v : Valuation) (a : Access) (key : Out → ℕ) (x y : Sized) → AreFit v a → IsBlock v a.address come_of x → IsBlock v a.address key y
+    → is_one (form_value v (apart_form a key x y)) ≡ (not (is_one (v x.out.come) && is_one (v (key y.out))) || is_apart (block_of v x) (block_of v y))
+apart_value v a key x y fit h k =
+    let c = is_one (v x.out.come) && is_one (v (key y.out)) in
+    let both = both_of (term x.out.come) (term (key y.out)) in
+    let block = same_block a (max x.exponent y.exponent) x.out.value y.out.value in
+    let over = overlap (block_of v x) (block_of v y) in
+    ap is_one (not_form v (both_of both block) (c && over) (both_form v both block c over (both_form v (term x.out.come) (term (key y.out)) (is_one (v x.out.come)) (is_one (v (key y.out))) h.0 k.0) (blocks_value v a x y fit h.1 k.1)))
+    ∙ flag_one (not (c && over)) ∙ split c over
   where
-    clear : (x y b : Bool) → x ≡ true → y ≡ true → not ((x && y) && b) ≡ true → b ≡ false
-    clear true true true e f q = absurd (false≢true q)
-    clear true true false e f q = refl
-    clear true false b e f q = absurd (false≢true f)
-    clear false y b e f q = absurd (false≢true e)
+    split : (c o : Bool) → not (c && o) ≡ (not c || not o)
+    split true o = refl
+    split false o = refl
 
-    by_made : (b : Bool) → is_one (v t.out.by_then) ≡ b → list_any (overlap (block_of v p)) (blocks_made v then_of ts) ≡ false → list_any (overlap (block_of v p)) (cond b (block_of v t ∷ blocks_made v then_of ts) (blocks_made v then_of ts)) ≡ false
-    by_made true e q =
-        let free = clear (is_one (v p.out.come)) (is_one (v t.out.by_then)) (overlap (block_of v p) (block_of v t)) c e (sym (apart_value v a p t one range h k.0) ∙ g.0) in
-        ap (λ (b : Bool). b || list_any (overlap (block_of v p)) (blocks_made v then_of ts)) free ∙ q
-    by_made false e q = q
+-- ---- pairs of nodes
 
--- where the first test fails and the others too
-none_left : (x y : Bool) → (x || y) ≡ false → (x ≡ false) × (y ≡ false)
-none_left true y e = absurd (false≢true (sym e))
-none_left false y e = (refl, e)
-
-holds_row : (v : Valuation) (a : Access) (p : Sized) (ts : List Sized) → v a.one_term ≡ flag true → ((n : ℕ) → (v n).bits < 2 ^ (v n).width.0) → IsBlock v a.address come_of p → AllByRecursion (IsBlock v a.address then_of) ts
-    → (is_one (v p.out.come) ≡ true → list_any (overlap (block_of v p)) (blocks_made v then_of ts) ≡ false) → Hold v (row a p ts)
-holds_row v a p [] one range h k g = tt
-holds_row v a p (t ∷ ts) one range h k g = (
-  apart_value v a p t one range h k.0 ∙ by_both (is_one (v p.out.come)) (is_one (v t.out.by_then)) g,
-  holds_row v a p ts one range h k.1 (λ c. rest (is_one (v t.out.by_then)) (g c)),
-)
+-- the forms of one node and others tell whether the test holds of those whose terms are 1
+pub row_tells : (v : Valuation) (key : Out → ℕ) (form : Sized → Form) (test : Block → Bool) (c : Bool) (ys : List Sized)
+    → AllByRecursion (λ (y : Sized). is_one (form_value v (form y)) ≡ (not (c && is_one (v (key y.out))) || test (block_of v y))) ys → Tells v (map form ys) (not c || list_all test (blocks_made v key ys))
+row_tells v key form test true [] h = none_tells v
+row_tells v key form test false [] h = none_tells v
+row_tells v key form test c (y ∷ ys) h =
+    let here = not (c && is_one (v (key y.out))) || test (block_of v y) in
+    let rest = not c || list_all test (blocks_made v key ys) in
+    tells_as v (form y ∷ map form ys) (here && rest) (not c || list_all test (blocks_made v key (y ∷ ys))) (by_made c (is_one (v (key y.out)))) (more_tell v (form y) (map form ys) here rest h.0 (row_tells v key form test c ys h.1))
   where
-    by_both : (x y : Bool) → (x ≡ true → list_any (overlap (block_of v p)) (cond y (block_of v t ∷ blocks_made v then_of ts) (blocks_made v then_of ts)) ≡ false) → not ((x && y) && overlap (block_of v p) (block_of v t)) ≡ true
-    by_both true true q = ap not (none_left (overlap (block_of v p) (block_of v t)) (list_any (overlap (block_of v p)) (blocks_made v then_of ts)) (q refl)).0
-    by_both true false q = refl
-    by_both false y q = refl
+    by_made : (c k : Bool) → ((not (c && k) || test (block_of v y)) && (not c || list_all test (blocks_made v key ys))) ≡ (not c || list_all test (cond k (block_of v y ∷ blocks_made v key ys) (blocks_made v key ys)))
+    by_made true true = refl
+    by_made true false = refl
+    by_made false k = refl
 
-    rest : (y : Bool) → list_any (overlap (block_of v p)) (cond y (block_of v t ∷ blocks_made v then_of ts) (blocks_made v then_of ts)) ≡ false → list_any (overlap (block_of v p)) (blocks_made v then_of ts) ≡ false
-    rest true q = (none_left (overlap (block_of v p) (block_of v t)) (list_any (overlap (block_of v p)) (blocks_made v then_of ts)) q).1
-    rest false q = q
+-- what the form of each pair tells
+abbrev pub PairsTell : Valuation → (Out → ℕ) → (Sized → Sized → Form) → (Block → Block → Bool) → List Sized → List Sized → Type 0
+PairsTell v key form test xs ys =
+    AllByRecursion (λ (x : Sized). AllByRecursion (λ (y : Sized). is_one (form_value v (form x y)) ≡ (not (is_one (v x.out.come) && is_one (v (key y.out))) || test (block_of v x) (block_of v y))) ys) xs
 
-abbrev hits : Valuation → List Sized → Block → Bool
-hits v ts page = list_any (overlap page) (blocks_made v then_of ts)
+abbrev pub all_pairs : (Block → Block → Bool) → List Block → List Block → Bool
+all_pairs test bs cs = list_all (λ (b : Block). list_all (test b) cs) bs
 
-rows_hold : (v : Valuation) (a : Access) (ps ts : List Sized) → v a.one_term ≡ flag true → ((n : ℕ) → (v n).bits < 2 ^ (v n).width.0) → AllByRecursion (IsBlock v a.address come_of) ps → AllByRecursion (IsBlock v a.address then_of) ts
-    → Hold v (apart_forms a ps ts) → list_any (hits v ts) (blocks_made v come_of ps) ≡ false
-rows_hold v a [] ts one range h k g = refl
-rows_hold v a (p ∷ ps) ts one range h k g =
-    let q = all_split (λ (f : Form). is_one (form_value v f) ≡ true) (row a p ts) (apart_forms a ps ts) g in
-    by_come (is_one (v p.out.come)) refl q.0 (rows_hold v a ps ts one range h.1 k q.1)
+pub pairs_tell : (v : Valuation) (key : Out → ℕ) (form : Sized → Sized → Form) (test : Block → Block → Bool) (xs ys : List Sized) → PairsTell v key form test xs ys
+    → Tells v (flat_map (λ (x : Sized). map (form x) ys) xs) (all_pairs test (blocks_made v come_of xs) (blocks_made v key ys))
+pairs_tell v key form test [] ys h = none_tells v
+pairs_tell v key form test (x ∷ xs) ys h =
+    let c = is_one (v x.out.come) in
+    let own = list_all (test (block_of v x)) (blocks_made v key ys) in
+    let rest = all_pairs test (blocks_made v come_of xs) (blocks_made v key ys) in
+    tells_as v (flat_map (λ (x : Sized). map (form x) ys) (x ∷ xs)) ((not c || own) && rest) (all_pairs test (blocks_made v come_of (x ∷ xs)) (blocks_made v key ys)) (by_come c)
+    (both_tell v (map (form x) ys) (flat_map (λ (x : Sized). map (form x) ys) xs) (not c || own) rest (row_tells v key (form x) (test (block_of v x)) c ys h.0) (pairs_tell v key form test xs ys h.1))
   where
-    by_come : (b : Bool) → is_one (v p.out.come) ≡ b → Hold v (row a p ts) → list_any (hits v ts) (blocks_made v come_of ps) ≡ false → list_any (hits v ts) (cond b (block_of v p ∷ blocks_made v come_of ps) (blocks_made v come_of ps)) ≡ false
-    by_come true e f q = ap (λ (b : Bool). b || list_any (hits v ts) (blocks_made v come_of ps)) (row_holds v a p ts one range h.0 k f e) ∙ q
-    by_come false e f q = q
+    by_come : (c : Bool)
+        → ((not c || list_all (test (block_of v x)) (blocks_made v key ys)) && all_pairs test (blocks_made v come_of xs) (blocks_made v key ys))
+        ≡ all_pairs test (cond c (block_of v x ∷ blocks_made v come_of xs) (blocks_made v come_of xs)) (blocks_made v key ys)
+    by_come true = refl
+    by_come false = refl
 
-hold_rows : (v : Valuation) (a : Access) (ps ts : List Sized) → v a.one_term ≡ flag true → ((n : ℕ) → (v n).bits < 2 ^ (v n).width.0) → AllByRecursion (IsBlock v a.address come_of) ps → AllByRecursion (IsBlock v a.address then_of) ts
-    → list_any (hits v ts) (blocks_made v come_of ps) ≡ false → Hold v (apart_forms a ps ts)
-hold_rows v a [] ts one range h k g = tt
-hold_rows v a (p ∷ ps) ts one range h k g =
-    all_join (λ (f : Form). is_one (form_value v f) ≡ true) (row a p ts) (apart_forms a ps ts)
-    (holds_row v a p ts one range h.0 k (first (is_one (v p.out.come)) g)) (hold_rows v a ps ts one range h.1 k (rest (is_one (v p.out.come)) g))
+row_apart : (v : Valuation) (a : Access) (key : Out → ℕ) (x : Sized) (ys : List Sized) → AreFit v a → IsBlock v a.address come_of x → AllByRecursion (IsBlock v a.address key) ys
+    → AllByRecursion (λ (y : Sized). is_one (form_value v (apart_form a key x y)) ≡ (not (is_one (v x.out.come) && is_one (v (key y.out))) || is_apart (block_of v x) (block_of v y))) ys
+row_apart v a key x [] fit h k = tt
+row_apart v a key x (y ∷ ys) fit h k = (apart_value v a key x y fit h k.0, row_apart v a key x ys fit h k.1)
+
+pub pairs_apart : (v : Valuation) (a : Access) (key : Out → ℕ) (xs ys : List Sized) → AreFit v a → AllByRecursion (IsBlock v a.address come_of) xs → AllByRecursion (IsBlock v a.address key) ys → PairsTell v key (apart_form a key) is_apart xs ys
+pairs_apart v a key [] ys fit h k = tt
+pairs_apart v a key (x ∷ xs) ys fit h k = (row_apart v a key x ys fit h.0 k, pairs_apart v a key xs ys fit h.1 k)
+
+-- ---- no page on a table
+
+none_is : {X : Type 0} (test : X → Bool) (xs : List X) → not (list_any test xs) ≡ list_all (λ (x : X). not (test x)) xs
+none_is test [] = refl
+none_is {X} test (x ∷ xs) = by_test (test x) (none_is test xs)
   where
-    first : (b : Bool) → list_any (hits v ts) (cond b (block_of v p ∷ blocks_made v come_of ps) (blocks_made v come_of ps)) ≡ false → b ≡ true → hits v ts (block_of v p) ≡ false
-    first true q e = (none_left (hits v ts (block_of v p)) (list_any (hits v ts) (blocks_made v come_of ps)) q).0
-    first false q e = absurd (false≢true e)
+    by_test : (b : Bool) → not (list_any test xs) ≡ list_all (λ (x : X). not (test x)) xs → not (b || list_any test xs) ≡ (not b && list_all (λ (x : X). not (test x)) xs)
+    by_test true e = refl
+    by_test false e = e
 
-    rest : (b : Bool) → list_any (hits v ts) (cond b (block_of v p ∷ blocks_made v come_of ps) (blocks_made v come_of ps)) ≡ false → list_any (hits v ts) (blocks_made v come_of ps) ≡ false
-    rest true q = (none_left (hits v ts (block_of v p)) (list_any (hits v ts) (blocks_made v come_of ps)) q).1
-    rest false q = q
+apart_all : (bs cs : List Block) → are_apart bs cs ≡ all_pairs is_apart bs cs
+apart_all [] cs = refl
+apart_all (b ∷ bs) cs = by_row (list_any (overlap b) cs) (none_is (overlap b) cs) (apart_all bs cs)
+  where
+    by_row : (t : Bool) → not t ≡ list_all (is_apart b) cs → are_apart bs cs ≡ all_pairs is_apart bs cs → not (t || list_any (λ (b : Block). list_any (overlap b) cs) bs) ≡ (list_all (is_apart b) cs && all_pairs is_apart bs cs)
+    by_row true e f = ap (λ (t : Bool). t && all_pairs is_apart bs cs) e
+    by_row false e f = f ∙ ap (λ (t : Bool). t && all_pairs is_apart bs cs) e
 
 -- the claim over the runs that are told
 claim_is : (v : Valuation) (d : ModelData) (r : Requests) (m : Memory) (oss : List (List Out)) → HaveContexts r r.accesses → AllTold v d r m 0 r.accesses oss → AreBlocks v d oss
-    → apart_claim d (seen v d r m) ≡ not (list_any (hits v (flat_map (tables_at (steps d)) oss)) (blocks_made v come_of (flat_map (pages_at (steps d)) oss)))
+    → apart_claim d (seen v d r m) ≡ all_pairs is_apart (blocks_made v come_of (flat_map (pages_at (steps d)) oss)) (blocks_made v then_of (flat_map (tables_at (steps d)) oss))
 claim_is v d r m oss c all b =
     let e : runs_of d (seen v d r m) ≡ map (λ os. told v (steps d) os 0) oss = runs_told v d r m r.accesses oss 0 c all in
     ap (λ (runs : List RunData). are_apart (pages_of runs) (tables_of (steps d) runs)) e
     ∙ ap (λ (l : List Block). are_apart l (tables_of (steps d) (map (λ os. told v (steps d) os 0) oss))) b.pages
     ∙ ap (λ (l : List Block). are_apart (blocks_made v come_of (flat_map (pages_at (steps d)) oss)) l) b.tables
+    ∙ apart_all (blocks_made v come_of (flat_map (pages_at (steps d)) oss)) (blocks_made v then_of (flat_map (tables_at (steps d)) oss))
 
-pub pages_apart : (v : Valuation) (d : ModelData) (r : Requests) (m : Memory) (oss : List (List Out)) → IsReady d → AreSet v d r → Fits d r m → HaveContexts r r.accesses → ArePlaced v d r 0 r.accesses oss → AllTold v d r m 0 r.accesses oss
-    → Hold v (page_forms d r oss) → apart_claim d (seen v d r m) ≡ true
-pages_apart v d r m oss ready set fits c placed all h =
-    let b = all_blocks v d r m r.accesses oss 0 ready set fits c (omega arith) placed in
-    claim_is v d r m oss c all b
-    ∙ ap not (rows_hold v (list_access d r) (flat_map (pages_at (steps d)) oss) (flat_map (tables_at (steps d)) oss) set.one_is set.range b.page_is b.table_is h)
+pub fit_from : (v : Valuation) (d : ModelData) (r : Requests) → AreSet v d r → AreFit v (list_access d r)
+fit_from v d r set = record { one_is = set.one_is; zero_is = set.zero_is; range = set.range }
 
-is_false : (b : Bool) → not b ≡ true → b ≡ false
-is_false true e = absurd (false≢true e)
-is_false false e = refl
-
-pub apart_pages : (v : Valuation) (d : ModelData) (r : Requests) (m : Memory) (oss : List (List Out)) → IsReady d → AreSet v d r → Fits d r m → HaveContexts r r.accesses → ArePlaced v d r 0 r.accesses oss → AllTold v d r m 0 r.accesses oss
-    → apart_claim d (seen v d r m) ≡ true → Hold v (page_forms d r oss)
-apart_pages v d r m oss ready set fits c placed all h =
-    let b = all_blocks v d r m r.accesses oss 0 ready set fits c (omega arith) placed in
-    hold_rows v (list_access d r) (flat_map (pages_at (steps d)) oss) (flat_map (tables_at (steps d)) oss) set.one_is set.range b.page_is b.table_is
-    (is_false (list_any (hits v (flat_map (tables_at (steps d)) oss)) (blocks_made v come_of (flat_map (pages_at (steps d)) oss))) (sym (claim_is v d r m oss c all b) ∙ h))
+-- the forms tell whether the claim holds
+pub pages_tell : (v : Valuation) (d : ModelData) (r : Requests) (m : Memory) (oss : List (List Out)) → AreSet v d r → HaveContexts r r.accesses → AllNodes v d oss → AllTold v d r m 0 r.accesses oss → Tells v (page_forms d r oss) (apart_claim d (seen v d r m))
+pages_tell v d r m oss set c nodes all =
+    let b = all_blocks v d oss nodes in
+    let xs = flat_map (pages_at (steps d)) oss in
+    let ys = flat_map (tables_at (steps d)) oss in
+    let a = list_access d r in
+    tells_as v (page_forms d r oss) (all_pairs is_apart (blocks_made v come_of xs) (blocks_made v then_of ys)) (apart_claim d (seen v d r m)) (sym (claim_is v d r m oss c all b))
+    (pairs_tell v then_of (apart_form a then_of) is_apart xs ys (pairs_apart v a then_of xs ys (fit_from v d r set) b.page_is b.table_is))

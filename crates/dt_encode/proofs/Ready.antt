@@ -49,7 +49,7 @@ replicated_length : (n : ℕ) (x : Term) → length (replicate n x) ≡ n
 replicated_length zero x = refl
 replicated_length (suc n) x = ap suc (replicated_length n x)
 
-access_length : (d : ModelData) → length (access_chosen d) ≡ length d.inputs + read_nodes d
+pub access_length : (d : ModelData) → length (access_chosen d) ≡ length d.inputs + read_nodes d
 access_length d =
     length-append (names_chosen d.inputs) (replicate (read_nodes d) (Choice (width d.word)))
     ∙ ap (λ (n : ℕ). n + length (replicate (read_nodes d) (Choice (width d.word)))) (names_length d.inputs)

@@ -1,127 +1,66 @@
 -- Values that solve the problem of a list tell an image that satisfies the list.
-use Rattle.std.proofs.Common.{◌≡◌, ℕ, zero, suc, ◌+◌, ◌<◌, ◌≤◌, ◌^◌, Bool, true, false, cond, not, ◌&&◌, leb, List, [], ◌∷◌, ◌++◌, length, map, refl, sym, ap, subst, arith}
-use Rattle.std.specs.Prelude.{IsTrue, All, max}
+use Rattle.std.proofs.Common.{◌≡◌, ℕ, zero, suc, ◌+◌, ◌<◌, ◌≤◌, ◌^◌, true, List, [], ◌∷◌, ◌++◌, length, map, refl, sym, ap, subst, arith}
+use Rattle.std.specs.Prelude.{IsTrue}
 use Rattle.std.specs.List.{flat_map, AllByRecursion}
 use Rattle.std.proofs.lemmas.List.Elements.{recursion_from_All, All-from_recursion}
+use Rattle.dt_lemmas.proofs.Lists.{AllByRecursion-append, AllByRecursion-split}
 use Rattle.dt_bits.specs.Memory.{Memory}
-use Rattle.dt_bits.specs.declared.op.Op.TheVariants.{Shr}
-use Rattle.dt_model.specs.ModelData.{ModelData, ActData}
+use Rattle.dt_model.specs.ModelData.{ModelData}
 use Rattle.dt_model.specs.Values.{FitNames}
 use Rattle.dt_model.specs.Faults.{steps}
 use Rattle.dt_request.specs.declared.list.AccessWish.{AccessWish}
 use Rattle.dt_request.specs.declared.list.Requests.{Requests}
-use Rattle.dt_request.specs.declared.list.Link.{Link}
-use Rattle.dt_request.specs.declared.list.Demand.{Demand}
-use Rattle.dt_request.specs.declared.list.Demand.TheVariants.{Via, Avoid, Take, EndDone, EndFault, Page, Bits, Span}
-use Rattle.dt_request.specs.Lists.{IsList, IsWish}
+use Rattle.dt_request.specs.Lists.{IsDemand, IsWish, IsLink, IsList}
 use Rattle.dt_image.specs.declared.image.ImageAccess.{ImageAccess}
-use Rattle.dt_satisfy.specs.Links.{link_holds}
-use Rattle.dt_satisfy.specs.Claims.{runs_of, context_claims, access_claims, demand_claims, link_claims, apart_claim, kept_claims, claims}
+use Rattle.dt_satisfy.specs.Claims.{context_claims, access_claims, demand_claims, link_claims, apart_claim, kept_claims, claims}
 use Rattle.dt_satisfy.specs.Satisfies.{Satisfies}
-use Rattle.dt_encode.specs.Meant.{IsMeant, AreMeant}
 use Rattle.dt_forms.specs.Meaning.{Valuation, IsLawful, is_one}
-use Rattle.dt_forms.specs.Forms.{Form, term, form1, same_of, form_value}
-use Rattle.dt_encode.specs.Passing.{Access, Out}
+use Rattle.dt_forms.specs.Forms.{Form, form_value}
+use Rattle.dt_forms.specs.Claims.{AreOnes, Hold}
+use Rattle.dt_forms.proofs.Tells.{TellAll, one_more_tells, many_tell}
+use Rattle.dt_encode.specs.Passing.{Out}
 use Rattle.dt_encode.specs.Told.{told}
-use Rattle.dt_encode.specs.Claims.{is_end, ends_done, ends_fault, ends_page, ends_only, pair_form, pair_forms, reads_of}
-use Rattle.dt_encode.specs.Apart.{same_block, apart_form, Sized, pages_at, tables_at, apart_forms}
-use Rattle.dt_encode.specs.Table.{demand_forms, wish_forms, page_forms, keep_forms, claim_forms, extra_forms, list_access, built, table, regs_at}
+use Rattle.dt_encode.specs.Claims.{pair_forms, reads_of}
+use Rattle.dt_encode.specs.Links.{link_forms}
+use Rattle.dt_encode.specs.Table.{wish_forms, page_forms, keep_forms, list_forms, list_access, built, table, regs_at}
 use Rattle.dt_encode.specs.Images.{contexts_told, accesses_told, reads_told, image_told}
-use Rattle.dt_forms.specs.Claims.{AreOnes}
-use Rattle.dt_forms.specs.Forms.{HasForm, HaveForms}
 use Rattle.dt_encode.proofs.Pairs.{hold_agree}
 use Rattle.dt_encode.proofs.Words.{AllAgree, all_listed}
 use Rattle.dt_encode.proofs.Remembered.{Remembers}
 use Rattle.dt_encode.proofs.Stand.{names_fit}
 use Rattle.dt_encode.proofs.Ready.{IsReady, AreSet, Fits, set_from}
-use Rattle.dt_encode.proofs.Composed.{all_join, all_split, ArePlaced, table_starts, table_placed, table_solved}
-use Rattle.dt_encode.proofs.Told.{AtAccess, placed_flagged, placed_remembered, AllFlagged, told_all, all_told, plain_agree}
-use Rattle.dt_encode.proofs.Claimed.{HaveContexts, AskEnds, AllTold, contexts_claimed, accesses_claimed, wishes_same, wishes_meet}
-use Rattle.dt_encode.proofs.Pages.{pages_apart}
-use Rattle.dt_encode.proofs.Kept.{kept_have}
-use Rattle.dt_encode.proofs.Ranges.{ranges_kept}
-
--- ---- claims are forms
-
-ends_form : (test : ActData → Bool) (ps : List ActData) (os : List Out) → HaveForms (ends_only test ps os)
-ends_form test [] os = tt
-ends_form test (p ∷ ps) [] = tt
-ends_form test (p ∷ ps) (o ∷ os) = by_step (is_end p && not (test p)) (ends_form test ps os)
-  where
-    by_step : (b : Bool) → HaveForms (ends_only test ps os) → HaveForms (cond b (term o.away ∷ ends_only test ps os) (ends_only test ps os))
-    by_step true h = (tt, h)
-    by_step false h = h
-
-demand_form : (ps : List ActData) (os : List Out) (demand : Demand) → HaveForms (demand_forms ps os demand)
-demand_form ps os EndDone = ends_form ends_done ps os
-demand_form ps os (EndFault code) = ends_form (ends_fault code) ps os
-demand_form ps os (Via n) = (tt, tt)
-demand_form ps os (Avoid n) = (tt, tt)
-demand_form ps os (Take n b) = (tt, tt)
-demand_form ps os (Page n) = ends_form (ends_page n) ps os
-demand_form ps os (Bits q mask value) = tt
-demand_form ps os (Span q lo hi) = tt
-
-demands_form : (ps : List ActData) (os : List Out) (demands : List Demand) → HaveForms (flat_map (demand_forms ps os) demands)
-demands_form ps os [] = tt
-demands_form ps os (q ∷ qs) = all_join HasForm (demand_forms ps os q) (flat_map (demand_forms ps os) qs) (demand_form ps os q) (demands_form ps os qs)
-
-wishes_form : (ps : List ActData) (wishes : List AccessWish) (oss : List (List Out)) → HaveForms (wish_forms ps wishes oss)
-wishes_form ps [] oss = tt
-wishes_form ps (a ∷ more) [] = tt
-wishes_form ps (a ∷ more) (os ∷ oss) = all_join HasForm (flat_map (demand_forms ps os) a.demands) (wish_forms ps more oss) (demands_form ps os a.demands) (wishes_form ps more oss)
-
-pair_map : (a : Out) (os : List Out) → HaveForms (map (pair_form a) os)
-pair_map a [] = tt
-pair_map a (o ∷ os) = ((refl, (refl, (refl, (refl, tt, tt), (refl, tt, tt))), (refl, tt, tt)), pair_map a os)
-
-pairs_form : (os : List Out) → HaveForms (pair_forms os)
-pairs_form [] = tt
-pairs_form (o ∷ os) = all_join HasForm (map (pair_form o) os) (pair_forms os) (pair_map o os) (pairs_form os)
-
-block_form : (a : Access) (e s t : ℕ) → HasForm (same_block a e s t)
-block_form a e s t = by_size (leb a.address e)
-  where
-    by_size : (b : Bool) → HasForm (cond b (term a.one_term) (same_of (form1 (Shr e) (term s)) (form1 (Shr e) (term t))))
-    by_size true = tt
-    by_size false = (refl, (refl, tt), (refl, tt))
-
-apart_map : (a : Access) (p : Sized) (tables : List Sized) → HaveForms (map (λ (t : Sized). apart_form a p.exponent t.exponent p.out t.out) tables)
-apart_map a p [] = tt
-apart_map a p (t ∷ ts) = ((refl, (refl, (refl, tt, tt), block_form a (max p.exponent t.exponent) p.out.value t.out.value)), apart_map a p ts)
-
-aparts_form : (a : Access) (pages tables : List Sized) → HaveForms (apart_forms a pages tables)
-aparts_form a [] tables = tt
-aparts_form a (p ∷ ps) tables = all_join HasForm (map (λ (t : Sized). apart_form a p.exponent t.exponent p.out t.out) tables) (apart_forms a ps tables) (apart_map a p tables) (aparts_form a ps tables)
-
-pub claims_form : (d : ModelData) (r : Requests) (oss : List (List Out)) → HaveForms (claim_forms d r oss ++ extra_forms d r oss)
-claims_form d r oss =
-    all_join HasForm (claim_forms d r oss) [] (
-    all_join HasForm (wish_forms (steps d) r.accesses oss ++ pair_forms (flat_map (reads_of (steps d)) oss) ++ page_forms d r oss) (keep_forms d r oss)
-    (all_join HasForm (wish_forms (steps d) r.accesses oss ++ pair_forms (flat_map (reads_of (steps d)) oss)) (page_forms d r oss)
-    (all_join HasForm (wish_forms (steps d) r.accesses oss) (pair_forms (flat_map (reads_of (steps d)) oss)) (wishes_form (steps d) r.accesses oss) (pairs_form (flat_map (reads_of (steps d)) oss)))
-    (aparts_form (list_access d r) (flat_map (pages_at (steps d)) oss) (flat_map (tables_at (steps d)) oss)))
-    (kept_have (list_access d r) (flat_map (pages_at (steps d)) oss) (flat_map (tables_at (steps d)) oss) r.kept)
-    ) tt
+use Rattle.dt_encode.proofs.Composed.{ArePlaced, IsSolved, table_starts, table_placed, table_solved}
+use Rattle.dt_encode.proofs.Told.{AtAccess, placed_nodes, placed_remembered, AllNodes, told_all, all_told, plain_agree}
+use Rattle.dt_encode.proofs.Claimed.{seen, HaveContexts, HaveDemands, AllTold, contexts_claimed, accesses_claimed, demands_tell}
+use Rattle.dt_encode.proofs.Linked.{links_tell}
+use Rattle.dt_encode.proofs.ListForms.{claims_form}
+use Rattle.dt_encode.proofs.Pages.{pages_tell}
+use Rattle.dt_encode.proofs.Ranges.{ranges_tell}
 
 -- ---- accesses
 
-pub contexts_have : (d : ModelData) (r : Requests) (wishes : List AccessWish) → AllByRecursion (IsWish d (length r.contexts)) wishes → HaveContexts r wishes
+contexts_have : (d : ModelData) (r : Requests) (wishes : List AccessWish) → AllByRecursion (IsWish d (length r.contexts)) wishes → HaveContexts r wishes
 contexts_have d r [] h = tt
 contexts_have d r (a ∷ more) h = (h.0.context, contexts_have d r more h.1)
 
-pub ask_ends : (d : ModelData) (wishes : List AccessWish) → AllByRecursion (λ (a : AccessWish). All (IsMeant d) a.demands) wishes → AskEnds d wishes
-ask_ends d [] h = tt
-ask_ends d (a ∷ more) h = (recursion_from_All (IsMeant d) a.demands h.0, ask_ends d more h.1)
+demands_have : (d : ModelData) (r : Requests) (wishes : List AccessWish) → AllByRecursion (IsWish d (length r.contexts)) wishes → HaveDemands d wishes
+demands_have d r [] h = tt
+demands_have d r (a ∷ more) h = (recursion_from_All (IsDemand d) a.demands h.0.demands, demands_have d r more h.1)
 
-pub all_flagged : (v : Valuation) (d : ModelData) (r : Requests) (m : Memory) (wishes : List AccessWish) (oss : List (List Out)) (k : ℕ) → IsReady d → AreSet v d r → Fits d r m → HaveContexts r wishes → k + length wishes ≤ length r.accesses
-    → ArePlaced v d r k wishes oss → AllFlagged v d oss
-all_flagged v d r m [] [] k ready set fits c l p = tt
-all_flagged v d r m [] (os ∷ oss) k ready set fits c l p = absurd p
-all_flagged v d r m (a ∷ more) [] k ready set fits c l p = absurd p
-all_flagged v d r m (a ∷ more) (os ∷ oss) k ready set fits c l p =
+placed_count : (v : Valuation) (d : ModelData) (r : Requests) (wishes : List AccessWish) (oss : List (List Out)) (k : ℕ) → ArePlaced v d r k wishes oss → length wishes ≡ length oss
+placed_count v d r [] [] k p = refl
+placed_count v d r [] (os ∷ oss) k p = absurd p
+placed_count v d r (a ∷ more) [] k p = absurd p
+placed_count v d r (a ∷ more) (os ∷ oss) k p = ap suc (placed_count v d r more oss (k + 1) p.1)
+
+all_nodes : (v : Valuation) (d : ModelData) (r : Requests) (m : Memory) (wishes : List AccessWish) (oss : List (List Out)) (k : ℕ) → IsReady d → AreSet v d r → Fits d r m → HaveContexts r wishes → k + length wishes ≤ length r.accesses
+    → ArePlaced v d r k wishes oss → AllNodes v d oss
+all_nodes v d r m [] [] k ready set fits c l p = tt
+all_nodes v d r m [] (os ∷ oss) k ready set fits c l p = absurd p
+all_nodes v d r m (a ∷ more) [] k ready set fits c l p = absurd p
+all_nodes v d r m (a ∷ more) (os ∷ oss) k ready set fits c l p =
     let h : AtAccess v d r k a m = record { ready = ready; set = set; context = c.0; access = omega (arith, l); fits = fits } in
-    (placed_flagged v d r k a m os h p.0, all_flagged v d r m more oss (k + 1) ready set fits c.1 (omega (arith, l)) p.1)
+    (placed_nodes v d r k a m os h p.0, all_nodes v d r m more oss (k + 1) ready set fits c.1 (omega (arith, l)) p.1)
 
 all_remembered : (v : Valuation) (d : ModelData) (r : Requests) (m : Memory) (wishes : List AccessWish) (oss : List (List Out)) (k : ℕ) → IsReady d → AreSet v d r → Fits d r m → HaveContexts r wishes → k + length wishes ≤ length r.accesses
     → ArePlaced v d r k wishes oss → Remembers m (reads_told v (steps d) oss) → AllTold v d r m k wishes oss
@@ -130,7 +69,7 @@ all_remembered v d r m [] (os ∷ oss) k ready set fits c l p g = absurd p
 all_remembered v d r m (a ∷ more) [] k ready set fits c l p g = absurd p
 all_remembered v d r m (a ∷ more) (os ∷ oss) k ready set fits c l p g =
     let h : AtAccess v d r k a m = record { ready = ready; set = set; context = c.0; access = omega (arith, l); fits = fits } in
-    let q = all_split _ (told v (steps d) os 0).reads (reads_told v (steps d) oss) g in
+    let q = AllByRecursion-split _ (told v (steps d) os 0).reads (reads_told v (steps d) oss) g in
     (placed_remembered v d r k a m os h p.0 q.0, all_remembered v d r m more oss (k + 1) ready set fits c.1 (omega (arith, l)) p.1 q.1)
 
 -- ---- the image
@@ -154,64 +93,94 @@ accesses_match : (v : Valuation) (d : ModelData) (r : Requests) (wishes : List A
 accesses_match v d r [] k = refl
 accesses_match v d r (a ∷ more) k = ap (λ (l : List ℕ). a.context ∷ l) (accesses_match v d r more (k + 1))
 
--- each access's walk over the image's memory is the one that is told
-pub told_walks : (v : Valuation) (d : ModelData) (r : Requests) → IsReady d → IsList d r → ((t : ℕ) → (v t).bits < 2 ^ (v t).width.0) → IsLawful v (table d r).terms → AreOnes v (table d r).required → AllTold v d r (image_told v d r).memory 0 r.accesses (built d r).outs
-told_walks v d r ready list range h ones =
+-- ---- the list
+
+-- what holds of the values of a list's terms
+pub record AreGiven (v : Valuation) (d : ModelData) (r : Requests) : Type 0 where
+  pub set : AreSet v d r
+  pub contexts : HaveContexts r r.accesses
+  pub demands : HaveDemands d r.accesses
+  pub links : AllByRecursion (IsLink d (length (built d r).outs)) r.links
+  pub placed : ArePlaced v d r 0 r.accesses (built d r).outs
+  pub nodes : AllNodes v d (built d r).outs
+
+pub given_from : (v : Valuation) (d : ModelData) (r : Requests) (m : Memory) → IsReady d → IsList d r → ((t : ℕ) → (v t).bits < 2 ^ (v t).width.0) → IsLawful v (table d r).terms → Fits d r m → AreGiven v d r
+given_from v d r m ready list range h fits =
     let starts = table_starts v d r h in
     let set = set_from v d r range starts.1 in
-    let oss = (built d r).outs in
+    let wishes = recursion_from_All (IsWish d (length r.contexts)) r.accesses list.accesses in
+    let c = contexts_have d r r.accesses wishes in
     let placed = table_placed v d r starts.0 in
-    let solved = table_solved v d r ready (claims_form d r oss) h ones in
-    let m = (image_told v d r).memory in
-    let fits : Fits d r m = record { bytes = refl; lo = refl; hi = refl } in
-    let c = contexts_have d r r.accesses (recursion_from_All (IsWish d (length r.contexts)) r.accesses list.accesses) in
-    let some : (f : Form) → Type 0 = λ f. is_one (form_value v f) ≡ true in
-    let halves = all_split some (wish_forms (steps d) r.accesses oss ++ pair_forms (flat_map (reads_of (steps d)) oss) ++ page_forms d r oss) (keep_forms d r oss) solved.claims in
-    let parts = all_split some (wish_forms (steps d) r.accesses oss ++ pair_forms (flat_map (reads_of (steps d)) oss)) (page_forms d r oss) halves.0 in
-    let firsts = all_split some (wish_forms (steps d) r.accesses oss) (pair_forms (flat_map (reads_of (steps d)) oss)) parts.0 in
-    let flagged = all_flagged v d r m r.accesses oss 0 ready set fits c (omega arith) placed in
-    let agree : AllAgree (reads_told v (steps d) oss) = plain_agree (reads_told v (steps d) oss) (subst AllAgree (sym (told_all v d oss flagged)) (hold_agree v (flat_map (reads_of (steps d)) oss) (all_told v d oss flagged) firsts.1)) in
-    all_remembered v d r m r.accesses oss 0 ready set fits c (omega arith) placed (all_listed (reads_told v (steps d) oss) agree)
+    let oss = (built d r).outs in
+    record {
+      set = set;
+      contexts = c;
+      demands = demands_have d r r.accesses wishes;
+      links = subst (λ (n : ℕ). AllByRecursion (IsLink d n) r.links) (placed_count v d r r.accesses oss 0 placed) (recursion_from_All (IsLink d (length r.accesses)) r.links list.links);
+      placed = placed;
+      nodes = all_nodes v d r m r.accesses oss 0 ready set fits c (omega arith) placed;
+    }
+
+-- the forms of what a list asks tell its claims of the image that the values tell
+pub list_tells : (v : Valuation) (d : ModelData) (r : Requests) (m : Memory) → IsList d r → AreGiven v d r → AllTold v d r m 0 r.accesses (built d r).outs
+    → TellAll v (list_forms d r (built d r).outs) (demand_claims d r (seen v d r m) ++ (link_claims d r (seen v d r m) ++ apart_claim d (seen v d r m) ∷ kept_claims d r (seen v d r m)))
+list_tells v d r m list g all =
+    let oss = (built d r).outs in
+    let i = seen v d r m in
+    let links = flat_map (link_forms d (list_access d r) oss) r.links in
+    many_tell v (wish_forms d r 0 r.accesses oss) (links ++ (page_forms d r oss ++ keep_forms d r oss)) (demand_claims d r i) (link_claims d r i ++ apart_claim d i ∷ kept_claims d r i) (demands_tell v d r m oss g.contexts g.demands g.nodes all)
+    (many_tell v links (page_forms d r oss ++ keep_forms d r oss) (link_claims d r i) (apart_claim d i ∷ kept_claims d r i) (links_tell v d r m oss g.set g.contexts g.links g.nodes all)
+    (one_more_tells v (page_forms d r oss) (keep_forms d r oss) (apart_claim d i) (kept_claims d r i) (pages_tell v d r m oss g.set g.contexts g.nodes all) (ranges_tell v d r m oss list g.set g.contexts g.nodes all)))
 
 -- ---- the theorem
 
-pub told_satisfies : (v : Valuation) (d : ModelData) (r : Requests) → IsReady d → IsList d r → AreMeant d r → ((t : ℕ) → (v t).bits < 2 ^ (v t).width.0) → IsLawful v (table d r).terms → AreOnes v (table d r).required → Satisfies d r (image_told v d r)
-told_satisfies v d r ready list asks range h ones =
-    let starts = table_starts v d r h in
-    let set = set_from v d r range starts.1 in
+-- what holds of values that solve the problem, and of the walks over the image that they tell
+pub record AreSolving (v : Valuation) (d : ModelData) (r : Requests) : Type 0 where
+  pub given : AreGiven v d r
+  pub solved : IsSolved v d r
+  pub asked : Hold v (list_forms d r (built d r).outs)
+  pub walks : AllTold v d r (image_told v d r).memory 0 r.accesses (built d r).outs
+
+pub solving_from : (v : Valuation) (d : ModelData) (r : Requests) → IsReady d → IsList d r → ((t : ℕ) → (v t).bits < 2 ^ (v t).width.0) → IsLawful v (table d r).terms → AreOnes v (table d r).required → AreSolving v d r
+solving_from v d r ready list range h ones =
     let oss = (built d r).outs in
-    let placed = table_placed v d r starts.0 in
-    let solved = table_solved v d r ready (claims_form d r oss) h ones in
     let m = (image_told v d r).memory in
     let fits : Fits d r m = record { bytes = refl; lo = refl; hi = refl } in
-    let c = contexts_have d r r.accesses (recursion_from_All (IsWish d (length r.contexts)) r.accesses list.accesses) in
-    let some : (f : Form) → Type 0 = λ f. is_one (form_value v f) ≡ true in
-    let halves = all_split some (wish_forms (steps d) r.accesses oss ++ pair_forms (flat_map (reads_of (steps d)) oss) ++ page_forms d r oss) (keep_forms d r oss) solved.claims in
-    let parts = all_split some (wish_forms (steps d) r.accesses oss ++ pair_forms (flat_map (reads_of (steps d)) oss)) (page_forms d r oss) halves.0 in
-    let firsts = all_split some (wish_forms (steps d) r.accesses oss) (pair_forms (flat_map (reads_of (steps d)) oss)) parts.0 in
-    let all = told_walks v d r ready list range h ones in
-    let ask = ask_ends d r.accesses (recursion_from_All (λ (a : AccessWish). All (IsMeant d) a.demands) r.accesses asks.demands) in
-    let same = wishes_same v d r m r.accesses oss 0 ready set fits c (omega arith) placed all ask in
+    let g = given_from v d r m ready list range h fits in
+    let solved = table_solved v d r ready (claims_form d r oss) h ones in
+    let reads = flat_map (reads_of (steps d)) oss in
+    let parts = AllByRecursion-split (λ (f : Form). is_one (form_value v f) ≡ true) (pair_forms reads) (list_forms d r oss) solved.claims in
+    let agree : AllAgree (reads_told v (steps d) oss) = plain_agree (reads_told v (steps d) oss) (subst AllAgree (sym (told_all v d oss g.nodes)) (hold_agree v reads (all_told v d oss g.nodes) parts.0)) in
+    record {
+      given = g;
+      solved = solved;
+      asked = parts.1;
+      walks = all_remembered v d r m r.accesses oss 0 ready g.set fits g.contexts (omega arith) g.placed (all_listed (reads_told v (steps d) oss) agree);
+    }
+
+pub told_satisfies : (v : Valuation) (d : ModelData) (r : Requests) → IsReady d → IsList d r → ((t : ℕ) → (v t).bits < 2 ^ (v t).width.0) → IsLawful v (table d r).terms → AreOnes v (table d r).required → Satisfies d r (image_told v d r)
+told_satisfies v d r ready list range h ones =
+    let all = solving_from v d r ready list range h ones in
+    let g = all.given in
     let i = image_told v d r in
+    let m = i.memory in
+    let asked = (list_tells v d r m list g all.walks).holds all.asked in
+    let p = AllByRecursion-split IsTrue (demand_claims d r i) (link_claims d r i ++ apart_claim d i ∷ kept_claims d r i) asked in
+    let q = AllByRecursion-split IsTrue (link_claims d r i) (apart_claim d i ∷ kept_claims d r i) p.1 in
     record {
       image = record {
         word = ready.word;
         end = list.bounds.within;
-        contexts = contexts_fit v d r (length r.contexts) 0 set (omega arith);
-        accesses = accesses_fit v d r (length (contexts_told v d (length r.contexts) 0)) r.accesses 0 set (contexts_length v d (length r.contexts) 0) c (omega arith);
+        contexts = contexts_fit v d r (length r.contexts) 0 g.set (omega arith);
+        accesses = accesses_fit v d r (length (contexts_told v d (length r.contexts) 0)) r.accesses 0 g.set (contexts_length v d (length r.contexts) 0) g.contexts (omega arith);
       };
       matches = record { lo = refl; hi = refl; contexts = contexts_length v d (length r.contexts) 0; accesses = accesses_match v d r r.accesses 0 };
       claims = All-from_recursion IsTrue (claims d r i) (
-          all_join IsTrue (context_claims d i ++ access_claims d i ++ demand_claims d r i ++ link_claims d r i) (apart_claim d i ∷ kept_claims d r i)
-          (all_join IsTrue (context_claims d i ++ access_claims d i ++ demand_claims d r i) (link_claims d r i)
-          (all_join IsTrue (context_claims d i ++ access_claims d i) (demand_claims d r i)
-          (all_join IsTrue (context_claims d i) (access_claims d i)
-          (contexts_claimed v d r (length r.contexts) 0 ready set (omega arith) solved.contexts)
-          (accesses_claimed v d r m r.accesses 0 ready set c (omega arith) solved.accesses))
-          (wishes_meet v d r m r.accesses oss 0 same firsts.0))
-          (subst (λ (l : List Link). AllByRecursion IsTrue (map (link_holds (steps d) (runs_of d i)) l)) (sym asks.links) tt)) (
-            pages_apart v d r m oss ready set fits c placed all parts.1,
-            ranges_kept v d r m oss ready list set fits c placed all halves.1,
-          )
-          );
+          AllByRecursion-append IsTrue (context_claims d i ++ access_claims d i ++ demand_claims d r i ++ link_claims d r i) (apart_claim d i ∷ kept_claims d r i)
+          (AllByRecursion-append IsTrue (context_claims d i ++ access_claims d i ++ demand_claims d r i) (link_claims d r i)
+          (AllByRecursion-append IsTrue (context_claims d i ++ access_claims d i) (demand_claims d r i)
+          (AllByRecursion-append IsTrue (context_claims d i) (access_claims d i)
+          (contexts_claimed v d r (length r.contexts) 0 ready g.set (omega arith) all.solved.contexts)
+          (accesses_claimed v d r m r.accesses 0 ready g.set g.contexts (omega arith) all.solved.accesses))
+          p.0) q.0) q.1);
     }

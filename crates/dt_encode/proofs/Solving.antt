@@ -1,27 +1,27 @@
 -- Values whose choices have the numbers of a satisfying image solve the problem of its list.
 use Rattle.std.proofs.Common.{◌≡◌, ℕ, ◌+◌, ◌*◌, ◌<◌, ◌≤◌, ◌^◌, true, List, [], ◌∷◌, ◌++◌, length, get_or, Some, sym, ap, ◌∙◌, subst, arith}
-use Rattle.std.specs.Prelude.{slice_get, IsTrue, All}
+use Rattle.std.specs.Prelude.{slice_get, IsTrue}
 use Rattle.std.specs.List.{flat_map, AllByRecursion}
 use Rattle.std.proofs.lemmas.List.Elements.{recursion_from_All}
+use Rattle.dt_lemmas.proofs.Lists.{AllByRecursion-append, AllByRecursion-split}
 use Rattle.dt_bits.specs.Memory.{Memory}
 use Rattle.dt_model.specs.ModelData.{ModelData}
 use Rattle.dt_model.specs.Faults.{steps}
 use Rattle.dt_request.specs.declared.list.AccessWish.{AccessWish}
 use Rattle.dt_request.specs.declared.list.Requests.{Requests}
-use Rattle.dt_request.specs.Lists.{IsList, IsWish}
+use Rattle.dt_request.specs.Lists.{IsList}
 use Rattle.dt_walk.specs.Meaning.{env_of, unbound}
 use Rattle.dt_walk.specs.Walks.{RunData, walk_of}
 use Rattle.dt_image.specs.declared.image.Image.{Image}
 use Rattle.dt_image.specs.declared.image.ImageAccess.{ImageAccess}
 use Rattle.dt_satisfy.specs.Claims.{run_of, context_claims, access_claims, demand_claims, link_claims, apart_claim, kept_claims, claims}
 use Rattle.dt_satisfy.specs.Satisfies.{Satisfies}
-use Rattle.dt_encode.specs.Meant.{IsMeant, AreMeant}
 use Rattle.dt_forms.specs.Meaning.{Valuation, IsLawful, is_one}
 use Rattle.dt_forms.specs.Forms.{Form, form_value}
 use Rattle.dt_encode.specs.Passing.{Out}
 use Rattle.dt_encode.specs.Told.{told}
 use Rattle.dt_encode.specs.Claims.{pair_forms, reads_of}
-use Rattle.dt_encode.specs.Table.{regs_at, inputs_at, words_at, access_of, first_state, wish_forms, page_forms, keep_forms, built, table}
+use Rattle.dt_encode.specs.Table.{regs_at, inputs_at, words_at, access_of, first_state, list_forms, built, table}
 use Rattle.dt_encode.specs.Images.{contexts_told, accesses_told, reads_told}
 use Rattle.dt_encode.specs.Numbers.{word_in, words_for, access_numbers, numbers_of}
 use Rattle.dt_forms.specs.Claims.{AreOnes}
@@ -29,15 +29,15 @@ use Rattle.dt_encode.proofs.Remembered.{Remembers}
 use Rattle.dt_encode.proofs.Pairs.{all_made, agree_hold}
 use Rattle.dt_encode.proofs.Words.{AllAgree}
 use Rattle.dt_encode.proofs.Nodes.{words_of}
-use Rattle.dt_encode.proofs.Ready.{IsReady, AreSet, Fits, set_from}
-use Rattle.dt_encode.proofs.Composed.{all_join, all_split, IsPlaced, ArePlaced, table_starts, table_placed, solved_table}
+use Rattle.dt_encode.proofs.Ready.{IsReady, AreSet, Fits}
+use Rattle.dt_encode.proofs.Composed.{IsPlaced, ArePlaced, solved_table}
 use Rattle.dt_encode.proofs.Told.{AtAccess, regs_of, inputs_of, placed_said, told_all, all_told, agree_plain}
-use Rattle.dt_encode.proofs.Claimed.{seen, access_told, registers_told, HaveContexts, AllTold, claimed_contexts, claimed_accesses, wishes_same, wishes_hold}
-use Rattle.dt_encode.proofs.Satisfying.{claims_form, contexts_have, ask_ends, all_flagged}
+use Rattle.dt_encode.proofs.Claimed.{seen, access_told, registers_told, HaveContexts, AllTold, claimed_contexts, claimed_accesses}
+use Rattle.dt_encode.proofs.ListForms.{claims_form}
+use Rattle.dt_encode.proofs.Satisfying.{given_from, list_tells}
 use Rattle.dt_encode.proofs.Rising.{walk_rising, rising_remembers, remembers_agree, rising_said}
 use Rattle.dt_encode.proofs.Numbers.{HaveBits, bits_split, contexts_back, contexts_total, HaveWords, accesses_back, words_back}
-use Rattle.dt_encode.proofs.Pages.{apart_pages}
-use Rattle.dt_encode.proofs.Ranges.{kept_ranges}
+use Rattle.dt_encode.proofs.Dead.{extras_hold}
 
 one_said : (v : Valuation) (d : ModelData) (r : Requests) (k : ℕ) (a : AccessWish) (m : Memory) (os : List Out) → AtAccess v d r k a m → IsPlaced v d r k a os
     → HaveBits v (words_at d r k) (words_for (steps d) (run_of d (seen v d r m) (access_told v d r k a)).reads 0)
@@ -69,41 +69,31 @@ told_remember v d r m (a ∷ more) [] k h = absurd h
 told_remember v d r m (a ∷ more) (os ∷ oss) k h =
     let w = walk_of d (regs_of v d a) (inputs_of v d r k) m in
     let g : Remembers m w.reads = rising_remembers (steps d) m 0 w.reads (walk_rising (steps d) (env_of d (regs_of v d a) (inputs_of v d r k)) m (steps d) 0 0 unbound (λ j q x. let z : j ≡ 0 + j = omega arith in subst (λ (i : ℕ). slice_get (steps d) i ≡ Some q) z x)) in
-    all_join _ (told v (steps d) os 0).reads (reads_told v (steps d) oss) (subst (λ (q : RunData). Remembers m q.reads) h.0 g) (told_remember v d r m more oss (k + 1) h.1)
+    AllByRecursion-append _ (told v (steps d) os 0).reads (reads_told v (steps d) oss) (subst (λ (q : RunData). Remembers m q.reads) h.0 g) (told_remember v d r m more oss (k + 1) h.1)
 
 -- an image that the values tell, over its memory
-seen_solved : (v : Valuation) (d : ModelData) (r : Requests) (m : Memory) → IsReady d → IsList d r → AreMeant d r → ((t : ℕ) → (v t).bits < 2 ^ (v t).width.0) → IsLawful v (table d r).terms → Fits d r m
+seen_solved : (v : Valuation) (d : ModelData) (r : Requests) (m : Memory) → IsReady d → IsList d r → ((t : ℕ) → (v t).bits < 2 ^ (v t).width.0) → IsLawful v (table d r).terms → Fits d r m
     → HaveWords v d r (seen v d r m) 0 (accesses_told v d r 0 r.accesses) → AllByRecursion IsTrue (claims d r (seen v d r m)) → AreOnes v (table d r).required
-seen_solved v d r m ready list asks range h fits words holds =
-    let starts = table_starts v d r h in
-    let set = set_from v d r range starts.1 in
+seen_solved v d r m ready list range h fits words holds =
     let oss = (built d r).outs in
-    let placed = table_placed v d r starts.0 in
+    let g = given_from v d r m ready list range h fits in
     let i = seen v d r m in
-    let c = contexts_have d r r.accesses (recursion_from_All (IsWish d (length r.contexts)) r.accesses list.accesses) in
-    let all = all_said v d r m r.accesses oss 0 ready set fits c (omega arith) placed words in
-    let flagged = all_flagged v d r m r.accesses oss 0 ready set fits c (omega arith) placed in
-    let ask = ask_ends d r.accesses (recursion_from_All (λ (a : AccessWish). All (IsMeant d) a.demands) r.accesses asks.demands) in
-    let same = wishes_same v d r m r.accesses oss 0 ready set fits c (omega arith) placed all ask in
-    let p4 = all_split IsTrue (context_claims d i ++ access_claims d i ++ demand_claims d r i ++ link_claims d r i) (apart_claim d i ∷ kept_claims d r i) holds in
-    let p3 = all_split IsTrue (context_claims d i ++ access_claims d i ++ demand_claims d r i) (link_claims d r i) p4.0 in
-    let p2 = all_split IsTrue (context_claims d i ++ access_claims d i) (demand_claims d r i) p3.0 in
-    let p1 = all_split IsTrue (context_claims d i) (access_claims d i) p2.0 in
-    let some : (f : Form) → Type 0 = λ f. is_one (form_value v f) ≡ true in
+    let all = all_said v d r m r.accesses oss 0 ready g.set fits g.contexts (omega arith) g.placed words in
+    let p4 = AllByRecursion-split IsTrue (context_claims d i ++ access_claims d i ++ demand_claims d r i ++ link_claims d r i) (apart_claim d i ∷ kept_claims d r i) holds in
+    let p3 = AllByRecursion-split IsTrue (context_claims d i ++ access_claims d i ++ demand_claims d r i) (link_claims d r i) p4.0 in
+    let p2 = AllByRecursion-split IsTrue (context_claims d i ++ access_claims d i) (demand_claims d r i) p3.0 in
+    let p1 = AllByRecursion-split IsTrue (context_claims d i) (access_claims d i) p2.0 in
     let reads = flat_map (reads_of (steps d)) oss in
-    let agree : AllAgree (all_made v reads) = subst AllAgree (told_all v d oss flagged) (agree_plain (reads_told v (steps d) oss) (remembers_agree m (reads_told v (steps d) oss) (told_remember v d r m r.accesses oss 0 all))) in
+    let agree : AllAgree (all_made v reads) = subst AllAgree (told_all v d oss g.nodes) (agree_plain (reads_told v (steps d) oss) (remembers_agree m (reads_told v (steps d) oss) (told_remember v d r m r.accesses oss 0 all))) in
+    let asked = AllByRecursion-append IsTrue (demand_claims d r i) (link_claims d r i ++ apart_claim d i ∷ kept_claims d r i) p2.1 (AllByRecursion-append IsTrue (link_claims d r i) (apart_claim d i ∷ kept_claims d r i) p3.1 p4.1) in
     solved_table v d r ready (claims_form d r oss) h (record {
-      contexts = claimed_contexts v d r (length r.contexts) 0 ready set (omega arith) p1.0;
-      accesses = claimed_accesses v d r m r.accesses 0 ready set c (omega arith) p1.1;
-      claims = all_join some (wish_forms (steps d) r.accesses oss ++ pair_forms reads ++ page_forms d r oss) (keep_forms d r oss)
-          (all_join some (wish_forms (steps d) r.accesses oss ++ pair_forms reads) (page_forms d r oss)
-          (all_join some (wish_forms (steps d) r.accesses oss) (pair_forms reads) (wishes_hold v d r m r.accesses oss 0 same p2.1) (agree_hold v reads (all_told v d oss flagged) agree))
-          (apart_pages v d r m oss ready set fits c placed all p4.1.0))
-          (kept_ranges v d r m oss ready list set fits c placed all p4.1.1);
-    }) tt
+      contexts = claimed_contexts v d r (length r.contexts) 0 ready g.set (omega arith) p1.0;
+      accesses = claimed_accesses v d r m r.accesses 0 ready g.set g.contexts (omega arith) p1.1;
+      claims = AllByRecursion-append (λ (f : Form). is_one (form_value v f) ≡ true) (pair_forms reads) (list_forms d r oss) (agree_hold v reads (all_told v d oss g.nodes) agree) ((list_tells v d r m list g all).held asked);
+    }) (extras_hold v d r m oss ready g.contexts g.nodes all p2.1)
 
-pub image_solved : (v : Valuation) (d : ModelData) (r : Requests) (i : Image) → IsReady d → IsList d r → AreMeant d r → ((t : ℕ) → (v t).bits < 2 ^ (v t).width.0) → IsLawful v (table d r).terms → HaveBits v 0 (numbers_of d i) → Satisfies d r i → AreOnes v (table d r).required
-image_solved v d r i ready list asks range h bits sat =
+pub image_solved : (v : Valuation) (d : ModelData) (r : Requests) (i : Image) → IsReady d → IsList d r → ((t : ℕ) → (v t).bits < 2 ^ (v t).width.0) → IsLawful v (table d r).terms → HaveBits v 0 (numbers_of d i) → Satisfies d r i → AreOnes v (table d r).required
+image_solved v d r i ready list range h bits sat =
     let m = i.memory in
     let p = bits_split v (flat_map (λ regs. regs) i.contexts) (flat_map (access_numbers d i) i.accesses) 0 bits in
     let z0 : 0 ≡ regs_at d 0 = omega arith in
@@ -118,5 +108,5 @@ image_solved v d r i ready list asks range h bits sat =
     ap (λ (cs : List (List ℕ)). record { memory = m; contexts = cs; accesses = accesses_told v d r 0 r.accesses }) ce
     ∙ ap (λ (l : List ImageAccess). record { memory = m; contexts = i.contexts; accesses = l }) ae.0 in
     let fits : Fits d r m = record { bytes = (let x = sat.image.word in let y = ready.word in omega (arith, x, y)); lo = sat.matches.lo; hi = sat.matches.hi } in
-    seen_solved v d r m ready list asks range h fits (subst (λ (j : Image). HaveWords v d r j 0 j.accesses) (sym e) ae.1)
+    seen_solved v d r m ready list range h fits (subst (λ (j : Image). HaveWords v d r j 0 j.accesses) (sym e) ae.1)
     (subst (λ (j : Image). AllByRecursion IsTrue (claims d r j)) (sym e) (recursion_from_All IsTrue (claims d r i) sat.claims))

@@ -13,6 +13,7 @@ use Rattle.dt_terms.specs.declared.term.Term.TheVariants.{Choice}
 use Rattle.dt_terms.specs.Terms.{term_at}
 use Rattle.dt_walk.specs.Meaning.{valued}
 use Rattle.dt_forms.specs.Meaning.{Valuation, HasValue, IsLawful}
+use Rattle.dt_forms.proofs.Fine.{mul_more}
 use Rattle.dt_encode.specs.Table.{names_chosen}
 use Rattle.dt_encode.specs.Images.{bits_from}
 
@@ -37,9 +38,6 @@ stand_split v (x ∷ xs) ys at h =
     let r = stand_split v xs ys (at + 1) h.1 in
     ((h.0, r.0), let z : at + 1 + length xs ≡ at + suc (length xs) = omega arith in subst (λ (j : ℕ). Stand v j ys) z r.1)
 
-mul_suc : (c n : ℕ) → suc c * n ≡ n + c * n
-mul_suc c n = omega arith
-
 -- the same terms again and again
 pub repeated_stand : {A : Type 0} (v : Valuation) (xs : List Term) (cs : List A) (at : ℕ) → Stand v at (flat_map (λ (_ : A). xs) cs) → (c : ℕ) → c < length cs → Stand v (at + c * length xs) xs
 repeated_stand v xs [] at h c l = absurd (omega (arith, l))
@@ -47,12 +45,12 @@ repeated_stand v xs (x ∷ cs) at h zero l =
     let z : at ≡ at + 0 * length xs = omega arith in
     subst (λ (j : ℕ). Stand v j xs) z (stand_split v xs _ at h).0
 repeated_stand v xs (x ∷ cs) at h (suc c) l =
-    let z : at + length xs + c * length xs ≡ at + suc c * length xs = omega (arith, mul_suc c (length xs)) in
+    let z : at + length xs + c * length xs ≡ at + suc c * length xs = omega (arith, mul_more c (length xs)) in
     subst (λ (j : ℕ). Stand v j xs) z (repeated_stand v xs cs (at + length xs) (stand_split v xs _ at h).1 c (omega (arith, l)))
 
 pub repeated_length : {A : Type 0} (xs : List Term) (cs : List A) → length (flat_map (λ (_ : A). xs) cs) ≡ length cs * length xs
 repeated_length xs [] = omega arith
-repeated_length {A} xs (x ∷ cs) = length-append xs (flat_map (λ (_ : A). xs) cs) ∙ ap (λ (n : ℕ). length xs + n) (repeated_length xs cs) ∙ sym (mul_suc (length cs) (length xs))
+repeated_length {A} xs (x ∷ cs) = length-append xs (flat_map (λ (_ : A). xs) cs) ∙ ap (λ (n : ℕ). length xs + n) (repeated_length xs cs) ∙ sym (mul_more (length cs) (length xs))
 
 -- ---- names
 

@@ -1,14 +1,13 @@
 -- The memory of the image that a solving assignment tells is a table memory.
-use Rattle.std.proofs.Common.{◌≡◌, ℕ, ◌+◌, ◌*◌, ◌/◌, ◌<◌, ◌≤◌, ◌^◌, Bool, true, false, not, ◌&&◌, ◌||◌, cond, eqb, leb, List, [], ◌∷◌, length, ◌⊎◌, inl, inr, ⊎_elim, refl, sym, ap, ◌∙◌, subst, arith, lit<}
+use Rattle.std.proofs.Common.{◌≡◌, ℕ, ◌+◌, ◌*◌, ◌/◌, ◌<◌, ◌≤◌, ◌^◌, Bool, true, false, cond, List, [], ◌∷◌, length, refl, sym, ap, ◌∙◌, subst, arith, lit<}
 use Rattle.std.specs.List.{AllByRecursion}
-use Rattle.std.proofs.lemmas.Bool.{false≢true, eqb-true, leb-true}
 use Rattle.std.proofs.Math.Nat.{pow-le-pow_right}
-use Rattle.dt_bits.specs.Memory.{Memory, IsMemory, IsWordSize}
+use Rattle.dt_lemmas.proofs.Lists.{AllByRecursion-append}
+use Rattle.dt_bits.specs.Memory.{Memory, IsMemory}
 use Rattle.dt_bits.specs.declared.memory.Word.{Word}
-use Rattle.dt_model.specs.declared.refusal.ModelRefusal.TheVariants.{WidthRange}
-use Rattle.dt_model.specs.declared.refusal.Place.TheVariants.{Header}
 use Rattle.dt_model.specs.ModelData.{ModelData, ActData, bind, read, branch, fault, done}
-use Rattle.dt_model.specs.Faults.{IsAccepted, HaveArities, steps, is_read, is_word, is_address}
+use Rattle.dt_model.specs.Faults.{IsAccepted, HaveArities, steps, is_read}
+use Rattle.dt_model.proofs.Accepting.{accepted_bytes, accepted_address}
 use Rattle.dt_request.specs.declared.list.AccessWish.{AccessWish}
 use Rattle.dt_request.specs.declared.list.Requests.{Requests}
 use Rattle.dt_request.specs.Lists.{IsList}
@@ -24,11 +23,11 @@ use Rattle.dt_encode.specs.Images.{image_told, reads_told}
 use Rattle.dt_forms.specs.Claims.{AreOnes}
 use Rattle.dt_encode.proofs.Nodes.{WordsWide}
 use Rattle.dt_encode.proofs.Ready.{AreSet, set_from, access_wide}
-use Rattle.dt_encode.proofs.Composed.{all_join, ArePlaced, table_starts, table_placed}
+use Rattle.dt_encode.proofs.Composed.{ArePlaced, table_starts, table_placed}
 use Rattle.dt_encode.proofs.Flagged.{AllOuts}
 use Rattle.dt_encode.proofs.Told.{regs_of, inputs_of}
 use Rattle.dt_encode.proofs.Claimed.{AllTold}
-use Rattle.dt_encode.proofs.Satisfying.{told_walks}
+use Rattle.dt_encode.proofs.Satisfying.{solving_from}
 use Rattle.dt_encode.proofs.Numbers.{word_there}
 use Rattle.dt_encode.proofs.Accepted.{ready_from}
 use Rattle.dt_encode.proofs.Memories.{words_sorted, sorted_rising, words_all, ArePlaces, walk_places, words_placed}
@@ -74,7 +73,7 @@ all_fit v d r (a ∷ more) [] k set l p = absurd p
 all_fit v d r (a ∷ more) (os ∷ oss) k set l p =
     let own = p.0 in
     let worded = outs_worded v (access_of d r k a) d.word (steps d) (first_state (access_of d r k a) own.terms (words_at d r k)) 0 (access_wide v d r k a own.terms set (omega (arith, l))) in
-    all_join (λ (m : ReadMade). m.word < 2 ^ d.word) (told v (steps d) os 0).reads (reads_told v (steps d) oss)
+    AllByRecursion-append (λ (m : ReadMade). m.word < 2 ^ d.word) (told v (steps d) os 0).reads (reads_told v (steps d) oss)
     (told_fits v d.word (steps d) os 0 set.range (subst (λ (q : List Out). AllOuts (IsWorded v d.word) (steps d) q) (sym own.outs_are) worded))
     (all_fit v d r more oss (k + 1) set (omega (arith, l)) p.1)
 
@@ -83,30 +82,10 @@ all_places v d r m [] [] k h = tt
 all_places v d r m [] (os ∷ oss) k h = absurd h
 all_places v d r m (a ∷ more) [] k h = absurd h
 all_places v d r m (a ∷ more) (os ∷ oss) k h =
-    all_join _ (told v (steps d) os 0).reads (reads_told v (steps d) oss)
+    AllByRecursion-append _ (told v (steps d) os 0).reads (reads_told v (steps d) oss)
     (subst (λ (q : RunData). ArePlaces m q.reads) h.0 (walk_places (env_of d (regs_of v d a) (inputs_of v d r k)) m (steps d) 0 0 unbound)) (all_places v d r m more oss (k + 1) h.1)
 
--- ---- the header
-
-either : (a b : Bool) → (a || b) ≡ true → (a ≡ true) ⊎ (b ≡ true)
-either true b e = inl refl
-either false b e = inr e
-
-size_is : (w : ℕ) → is_word w ≡ true → IsWordSize (w / 8)
-size_is w h = ⊎_elim (λ (e : eqb w 8 ≡ true). subst (λ (m : ℕ). IsWordSize (m / 8)) (sym (eqb-true w 8 e)) (inl refl))
-    (λ (k : (eqb w 16 || (eqb w 32 || eqb w 64)) ≡ true). ⊎_elim (λ (e : eqb w 16 ≡ true). subst (λ (m : ℕ). IsWordSize (m / 8)) (sym (eqb-true w 16 e)) (inr (inl refl)))
-    (λ (j : (eqb w 32 || eqb w 64) ≡ true). ⊎_elim (λ (e : eqb w 32 ≡ true). subst (λ (m : ℕ). IsWordSize (m / 8)) (sym (eqb-true w 32 e)) (inr (inr (inl refl)))) (λ (e : eqb w 64 ≡ true). subst (λ (m : ℕ). IsWordSize (m / 8)) (sym (eqb-true w 64 e)) (inr (inr (inr refl)))) (either (eqb w 32) (eqb w 64) j))
-    (either (eqb w 16) (eqb w 32 || eqb w 64) k))
-    (either (eqb w 8) (eqb w 16 || (eqb w 32 || eqb w 64)) h)
-
-both_true : (a b : Bool) → (not (a && b) ≡ true → ⊥) → (a ≡ true) × (b ≡ true)
-both_true true true h = (refl, refl)
-both_true true false h = absurd (h refl)
-both_true false b h = absurd (h refl)
-
-second : (a b : Bool) → (a && b) ≡ true → b ≡ true
-second true b e = e
-second false b e = absurd (false≢true e)
+-- ---- the whole
 
 pub told_memory : (v : Valuation) (d : ModelData) (r : Requests) → IsAccepted d → HaveArities d → IsList d r → ((t : ℕ) → (v t).bits < 2 ^ (v t).width.0) → IsLawful v (table d r).terms → AreOnes v (table d r).required → IsMemory (image_told v d r).memory
 told_memory v d r a arities list range h ones =
@@ -116,17 +95,15 @@ told_memory v d r a arities list range h ones =
     let oss = (built d r).outs in
     let m = (image_told v d r).memory in
     let reads = reads_told v (steps d) oss in
-    let header = both_true (is_word d.word) (is_address d.address) (a Header WidthRange) in
-    let narrow : d.address ≤ 64 = leb-true d.address 64 (second (leb 8 d.address) (leb d.address 64) header.1) in
-    let most : 2 ^ d.address ≤ 2 ^ 64 = pow-le-pow_right (lit< tt) narrow in
+    let most : 2 ^ d.address ≤ 2 ^ 64 = pow-le-pow_right (lit< tt) (accepted_address d a).1 in
     let within = list.bounds.within in
     record {
-      bytes = size_is d.word header.0;
+      bytes = (accepted_bytes d a).0;
       lo = list.bounds.lo_whole;
       hi = list.bounds.hi_whole;
       order = list.bounds.rising;
       end = omega (arith, most, within);
       rising = sorted_rising (words_read reads) (words_sorted reads);
-      words = words_placed m reads (all_places v d r m r.accesses oss 0 (told_walks v d r ready list range h ones));
+      words = words_placed m reads (all_places v d r m r.accesses oss 0 (solving_from v d r ready list range h ones).walks);
       fit = words_all (λ (w : Word). w.value < 2 ^ (8 * (d.word / 8))) reads (subst (λ (n : ℕ). AllByRecursion (λ (q : ReadMade). q.word < 2 ^ n) reads) ready.word (all_fit v d r r.accesses oss 0 set (omega arith) (table_placed v d r starts.0)));
     }

@@ -1,7 +1,7 @@
 -- A solving assignment tells an image that satisfies the list, and the numbers of a satisfying image are a solving assignment.
-use Rattle.std.proofs.Common.{◌≡◌, ℕ, zero, suc, ◌+◌, ◌<◌, ◌≤◌, ◌^◌, Bool, true, false, cond, eqb, ◌&&◌, List, [], ◌∷◌, ◌++◌, length, take, get_or, ⊎_elim, refl, sym, ap, ◌∙◌, subst, arith, length-append}
+use Rattle.std.proofs.Common.{◌≡◌, ℕ, zero, suc, ◌+◌, ◌<◌, ◌≤◌, ◌^◌, Bool, true, cond, eqb, ◌&&◌, List, [], ◌∷◌, ◌++◌, length, take, get_or, ⊎_elim, refl, sym, ap, ◌∙◌, subst, arith, length-append}
 use Rattle.std.specs.List.{list_all}
-use Rattle.std.proofs.lemmas.Bool.{false≢true, cases_lt}
+use Rattle.std.proofs.lemmas.Bool.{false≢true, cases_lt, and_parts}
 use Rattle.std.proofs.lemmas.List.{get_or_past}
 use Rattle.std.proofs.lemmas.Nat.{pow_pos}
 use Rattle.dt_model.specs.ModelData.{ModelData}
@@ -15,7 +15,6 @@ use Rattle.dt_terms.proofs.Choices.{choices_of-none, choice_at-next}
 use Rattle.dt_terms.proofs.Valued.{values_fit, value_is}
 use Rattle.dt_image.specs.declared.image.Image.{Image}
 use Rattle.dt_satisfy.specs.Satisfies.{Satisfies}
-use Rattle.dt_encode.specs.Meant.{AreMeant}
 use Rattle.dt_forms.specs.Meaning.{Valuation}
 use Rattle.dt_encode.specs.Table.{table, choices}
 use Rattle.dt_encode.specs.Images.{image_told}
@@ -37,26 +36,18 @@ values_range terms numbers h i t = ⊎_elim
 
 pub ones_of : (terms : List Term) (numbers ts : List ℕ) → list_all (λ t. eqb (get_or (values_of terms numbers) t 0) 1) ts ≡ true → AreOnes (values terms numbers) ts
 ones_of terms numbers [] h = tt
-ones_of terms numbers (t ∷ ts) h = (left _ _ h, ones_of terms numbers ts (right _ _ h))
-  where
-    left : (a b : Bool) → (a && b) ≡ true → a ≡ true
-    left true b e = refl
-    left false b e = absurd (false≢true e)
-
-    right : (a b : Bool) → (a && b) ≡ true → b ≡ true
-    right true b e = e
-    right false b e = absurd (false≢true e)
+ones_of terms numbers (t ∷ ts) h = let p = and_parts _ _ h in (p.0, ones_of terms numbers ts p.1)
 
 of_ones : (terms : List Term) (numbers ts : List ℕ) → AreOnes (values terms numbers) ts → list_all (λ t. eqb (get_or (values_of terms numbers) t 0) 1) ts ≡ true
 of_ones terms numbers [] h = refl
 of_ones terms numbers (t ∷ ts) h = ap (λ (b : Bool). b && list_all (λ t. eqb (get_or (values_of terms numbers) t 0) 1) ts) h.0 ∙ of_ones terms numbers ts h.1
 
 -- from an assignment to an image
-pub table_satisfies : (d : ModelData) (r : Requests) (numbers : List ℕ) → IsReady d → IsList d r → AreMeant d r → AreTerms (table d r).terms → IsAssignment (table d r).terms numbers → solves (table d r) numbers ≡ true
+pub table_satisfies : (d : ModelData) (r : Requests) (numbers : List ℕ) → IsReady d → IsList d r → AreTerms (table d r).terms → IsAssignment (table d r).terms numbers → solves (table d r) numbers ≡ true
     → Satisfies d r (image_told (values (table d r).terms numbers) d r)
-table_satisfies d r numbers ready list asks h i s =
+table_satisfies d r numbers ready list h i s =
     let terms = (table d r).terms in
-    told_satisfies (values terms numbers) d r ready list asks (values_range terms numbers h i) (lawful_values terms numbers h) (ones_of terms numbers (table d r).required s)
+    told_satisfies (values terms numbers) d r ready list (values_range terms numbers h i) (lawful_values terms numbers h) (ones_of terms numbers (table d r).required s)
 
 -- ---- choices have their numbers
 
@@ -95,11 +86,11 @@ first_bits xs more numbers h e =
     ∙ ap (λ (j : ℕ). get_or numbers j 0) (choice_place xs more t h (omega (arith, l, e))))
 
 -- from an image to an assignment
-pub image_solves : (d : ModelData) (r : Requests) (i : Image) → IsReady d → IsList d r → AreMeant d r → AreTerms (table d r).terms → IsAssignment (table d r).terms (numbers_of d i) → length (numbers_of d i) ≡ length (choices d r) → Satisfies d r i
+pub image_solves : (d : ModelData) (r : Requests) (i : Image) → IsReady d → IsList d r → AreTerms (table d r).terms → IsAssignment (table d r).terms (numbers_of d i) → length (numbers_of d i) ≡ length (choices d r) → Satisfies d r i
     → solves (table d r) (numbers_of d i) ≡ true
-image_solves d r i ready list asks h a n sat =
+image_solves d r i ready list h a n sat =
     let terms = (table d r).terms in
     let numbers = numbers_of d i in
     let x = table_extends d r in
     let bits : HaveBits (values terms numbers) 0 numbers = subst (λ (l : List Term). HaveBits (values l numbers) 0 numbers) (sym x.1) (first_bits (choices d r) x.0 numbers (are_choices d r) n) in
-    of_ones terms numbers (table d r).required (image_solved (values terms numbers) d r i ready list asks (values_range terms numbers h a) (lawful_values terms numbers h) bits sat)
+    of_ones terms numbers (table d r).required (image_solved (values terms numbers) d r i ready list (values_range terms numbers h a) (lawful_values terms numbers h) bits sat)

@@ -1,8 +1,9 @@
 -- What an access's terms tell of its walk: the walk itself, its end and its reads.
-use Rattle.std.proofs.Common.{◌≡◌, ℕ, ◌+◌, ◌<◌, Bool, true, false, cond, List, [], ◌∷◌, ◌++◌, length, map, get_or, refl, sym, ap, ◌∙◌, subst, arith}
+use Rattle.std.proofs.Common.{◌≡◌, ℕ, ◌+◌, ◌<◌, Bool, true, false, cond, eqb, List, [], ◌∷◌, ◌++◌, length, map, get_or, refl, sym, ap, ◌∙◌, subst, arith}
 use Rattle.std.specs.List.{flat_map, AllByRecursion}
-use Rattle.std.proofs.lemmas.Bool.{false≢true, eq-eqb, eqb-true}
+use Rattle.std.proofs.lemmas.Bool.{false≢true}
 use Rattle.std.proofs.lemmas.List.{length-map, map-append}
+use Rattle.dt_lemmas.proofs.Lists.{AllByRecursion-append}
 use Rattle.dt_bits.specs.Memory.{Memory, is_place}
 use Rattle.dt_model.specs.ModelData.{ModelData, ActData, bind, read, branch, fault, done}
 use Rattle.dt_model.specs.Faults.{steps}
@@ -14,7 +15,7 @@ use Rattle.dt_walk.specs.declared.run.ReadMade.{ReadMade}
 use Rattle.dt_walk.specs.Meaning.{env_of, unbound}
 use Rattle.dt_walk.specs.Walks.{RunData, walk_of}
 use Rattle.dt_satisfy.specs.Demands.{is_done, is_fault, is_page}
-use Rattle.dt_forms.specs.Meaning.{Valuation, is_one}
+use Rattle.dt_forms.specs.Meaning.{Valuation, flag, is_one}
 use Rattle.dt_encode.specs.Passing.{Out, walk_placed}
 use Rattle.dt_encode.specs.Told.{told, told_step, made_if}
 use Rattle.dt_encode.specs.Claims.{ends_done, ends_fault, ends_page, reads_of}
@@ -30,6 +31,7 @@ use Rattle.dt_encode.proofs.Words.{Agree, AllAgree}
 use Rattle.dt_encode.proofs.Ready.{IsReady, AreSet, Fits, access_is, access_left, access_wide}
 use Rattle.dt_encode.proofs.Composed.{IsPlaced}
 use Rattle.dt_encode.proofs.Flagged.{AllOuts, IsFlagged, outs_flagged}
+use Rattle.dt_encode.proofs.NodeKinds.{reads_have}
 
 -- what is known where an access stands
 pub record AtAccess (v : Valuation) (d : ModelData) (r : Requests) (k : ℕ) (a : AccessWish) (m : Memory) : Type 0 where
@@ -108,11 +110,11 @@ plain_if true false n cell word rest made h e = e
 plain_if false true n cell word rest made h e = absurd (false≢true (h refl))
 plain_if false false n cell word rest made h e = e
 
-same_if : (b : Bool) (x y : RunData) → x.reads ≡ y.reads → (cond b x y).reads ≡ y.reads
+pub same_if : (b : Bool) (x y : RunData) → x.reads ≡ y.reads → (cond b x y).reads ≡ y.reads
 same_if true x y e = e
 same_if false x y e = refl
 
-reads_if : (b : Bool) (x y : RunData) → (cond b x y).reads ≡ cond b x.reads y.reads
+pub reads_if : (b : Bool) (x y : RunData) → (cond b x y).reads ≡ cond b x.reads y.reads
 reads_if true x y = refl
 reads_if false x y = refl
 
@@ -133,17 +135,7 @@ told_plain v address (read x e g t f ∷ ps) (o ∷ os) n h =
     ∙ plain_if (is_one (v o.come)) (is_one (v o.by_then)) n (v o.value).bits (v o.word).bits r.reads (all_made v (reads_of ps os)) h.0.comes (told_plain v address ps os (n + 1) h.1)
 
 pub reads_flagged : (v : Valuation) (address : ℕ) (ps : List ActData) (os : List Out) → AllOuts (IsFlagged v address) ps os → AreTold v (reads_of ps os)
-reads_flagged v address [] os h = tt
-reads_flagged v address (bind x e to ∷ ps) [] h = tt
-reads_flagged v address (read x e g t f ∷ ps) [] h = tt
-reads_flagged v address (branch e t f ∷ ps) [] h = tt
-reads_flagged v address (fault c ∷ ps) [] h = tt
-reads_flagged v address (done e p ∷ ps) [] h = tt
-reads_flagged v address (bind x e to ∷ ps) (o ∷ os) h = reads_flagged v address ps os h.1
-reads_flagged v address (branch e t f ∷ ps) (o ∷ os) h = reads_flagged v address ps os h.1
-reads_flagged v address (fault c ∷ ps) (o ∷ os) h = reads_flagged v address ps os h.1
-reads_flagged v address (done e p ∷ ps) (o ∷ os) h = reads_flagged v address ps os h.1
-reads_flagged v address (read x e g t f ∷ ps) (o ∷ os) h = (h.0.then_is, reads_flagged v address ps os h.1)
+reads_flagged v address ps os h = reads_have (IsFlagged v address) (λ (o : Out). v o.by_then ≡ flag (is_made v o)) (λ x e g t f o k. k.then_is) ps os h
 
 made_append : (v : Valuation) (xs ys : List Out) → all_made v (xs ++ ys) ≡ all_made v xs ++ all_made v ys
 made_append v [] ys = refl
@@ -153,26 +145,6 @@ made_append v (o ∷ xs) ys = by_made (is_made v o) (made_append v xs ys)
         → cond b (read_made v o ∷ all_made v (xs ++ ys)) (all_made v (xs ++ ys)) ≡ cond b (read_made v o ∷ all_made v xs) (all_made v xs) ++ all_made v ys
     by_made true e = ap (λ (l : List ReadMade). read_made v o ∷ l) e
     by_made false e = e
-
--- each access's terms are so
-abbrev pub AllFlagged : Valuation → ModelData → List (List Out) → Type 0
-AllFlagged v d oss = AllByRecursion (λ (os : List Out). AllOuts (IsFlagged v d.address) (steps d) os) oss
-
-pub told_all : (v : Valuation) (d : ModelData) (oss : List (List Out)) → AllFlagged v d oss → map plain (reads_told v (steps d) oss) ≡ all_made v (flat_map (reads_of (steps d)) oss)
-told_all v d [] h = refl
-told_all v d (os ∷ oss) h =
-    map-append plain (told v (steps d) os 0).reads (reads_told v (steps d) oss)
-    ∙ ap (λ (l : List ReadMade). l ++ map plain (reads_told v (steps d) oss)) (told_plain v d.address (steps d) os 0 h.0)
-    ∙ ap (λ (l : List ReadMade). all_made v (reads_of (steps d) os) ++ l) (told_all v d oss h.1)
-    ∙ sym (made_append v (reads_of (steps d) os) (flat_map (reads_of (steps d)) oss))
-
-flags_join : (v : Valuation) (xs ys : List Out) → AreTold v xs → AreTold v ys → AreTold v (xs ++ ys)
-flags_join v [] ys h k = k
-flags_join v (o ∷ xs) ys h k = (h.0, flags_join v xs ys h.1 k)
-
-pub all_told : (v : Valuation) (d : ModelData) (oss : List (List Out)) → AllFlagged v d oss → AreTold v (flat_map (reads_of (steps d)) oss)
-all_told v d [] h = tt
-all_told v d (os ∷ oss) h = flags_join v (reads_of (steps d) os) (flat_map (reads_of (steps d)) oss) (reads_flagged v d.address (steps d) os h.0) (all_told v d oss h.1)
 
 one_agrees : (m : ReadMade) (ms : List ReadMade) → AllByRecursion (Agree (plain m)) (map plain ms) → AllByRecursion (Agree m) ms
 one_agrees m [] h = tt
@@ -192,58 +164,66 @@ agree_plain (m ∷ ms) h = (agrees_one m ms h.0, agree_plain ms h.1)
 
 -- ---- ends
 
-pub end_done : (end : End) (p : ActData) → EndsBy p end → ends_done p ≡ true → is_done end ≡ true
-end_done (Done n pa q) p h e = refl
-end_done (Fault n c) (done x q) h e = absurd h
-end_done (Fault n c) (fault k) h e = absurd (false≢true e)
-end_done (Fault n c) (bind x y to) h e = absurd h
-end_done (Fault n c) (read x y g t o) h e = absurd h
-end_done (Fault n c) (branch y t o) h e = absurd h
+pub done_same : (end : End) (p : ActData) → EndsBy p end → ends_done p ≡ is_done end
+done_same (Done n pa q) (done x y) h = refl
+done_same (Done n pa q) (fault k) h = absurd h
+done_same (Done n pa q) (bind x y to) h = absurd h
+done_same (Done n pa q) (read x y g t o) h = absurd h
+done_same (Done n pa q) (branch y t o) h = absurd h
+done_same (Fault n c) (fault k) h = refl
+done_same (Fault n c) (done x y) h = absurd h
+done_same (Fault n c) (bind x y to) h = absurd h
+done_same (Fault n c) (read x y g t o) h = absurd h
+done_same (Fault n c) (branch y t o) h = absurd h
 
-pub done_end : (end : End) → is_done end ≡ true → (p : ActData) → EndsBy p end → ends_done p ≡ true
-done_end (Fault n c) e p h = absurd (false≢true e)
-done_end (Done n pa q) e (done x y) h = refl
-done_end (Done n pa q) e (fault k) h = absurd h
-done_end (Done n pa q) e (bind x y to) h = absurd h
-done_end (Done n pa q) e (read x y g t o) h = absurd h
-done_end (Done n pa q) e (branch y t o) h = absurd h
+pub fault_same : (code : ℕ) (end : End) (p : ActData) → EndsBy p end → ends_fault code p ≡ is_fault code end
+fault_same code (Fault n c) (fault k) h = ap (λ (m : ℕ). eqb m code) (sym h)
+fault_same code (Fault n c) (done x q) h = absurd h
+fault_same code (Fault n c) (bind x y to) h = absurd h
+fault_same code (Fault n c) (read x y g t o) h = absurd h
+fault_same code (Fault n c) (branch y t o) h = absurd h
+fault_same code (Done n pa q) (done x y) h = refl
+fault_same code (Done n pa q) (fault k) h = absurd h
+fault_same code (Done n pa q) (bind x y to) h = absurd h
+fault_same code (Done n pa q) (read x y g t o) h = absurd h
+fault_same code (Done n pa q) (branch y t o) h = absurd h
 
-pub end_fault : (code : ℕ) (end : End) (p : ActData) → EndsBy p end → ends_fault code p ≡ true → is_fault code end ≡ true
-end_fault code (Fault n c) (fault k) h e = eq-eqb c code (h ∙ eqb-true k code e)
-end_fault code (Fault n c) (done x q) h e = absurd h
-end_fault code (Fault n c) (bind x y to) h e = absurd h
-end_fault code (Fault n c) (read x y g t o) h e = absurd h
-end_fault code (Fault n c) (branch y t o) h e = absurd h
-end_fault code (Done n pa q) (fault k) h e = absurd h
-end_fault code (Done n pa q) (done x y) h e = absurd (false≢true e)
-end_fault code (Done n pa q) (bind x y to) h e = absurd h
-end_fault code (Done n pa q) (read x y g t o) h e = absurd h
-end_fault code (Done n pa q) (branch y t o) h e = absurd h
+pub page_same : (page : ℕ) (end : End) (p : ActData) → EndsBy p end → ends_page page p ≡ is_page page end
+page_same page (Done n pa q) (done x y) h = ap (λ (m : ℕ). eqb m page) (sym h)
+page_same page (Done n pa q) (fault k) h = absurd h
+page_same page (Done n pa q) (bind x y to) h = absurd h
+page_same page (Done n pa q) (read x y g t o) h = absurd h
+page_same page (Done n pa q) (branch y t o) h = absurd h
+page_same page (Fault n c) (fault k) h = refl
+page_same page (Fault n c) (done x y) h = absurd h
+page_same page (Fault n c) (bind x y to) h = absurd h
+page_same page (Fault n c) (read x y g t o) h = absurd h
+page_same page (Fault n c) (branch y t o) h = absurd h
 
-pub fault_end : (code : ℕ) (end : End) → is_fault code end ≡ true → (p : ActData) → EndsBy p end → ends_fault code p ≡ true
-fault_end code (Done n pa q) e p h = absurd (false≢true e)
-fault_end code (Fault n c) e (fault k) h = eq-eqb k code (sym h ∙ eqb-true c code e)
-fault_end code (Fault n c) e (done x q) h = absurd h
-fault_end code (Fault n c) e (bind x y to) h = absurd h
-fault_end code (Fault n c) e (read x y g t o) h = absurd h
-fault_end code (Fault n c) e (branch y t o) h = absurd h
+-- ---- all of it
 
-pub end_page : (page : ℕ) (end : End) (p : ActData) → EndsBy p end → ends_page page p ≡ true → is_page page end ≡ true
-end_page page (Done n pa q) (done x y) h e = eq-eqb q page (h ∙ eqb-true y page e)
-end_page page (Done n pa q) (fault k) h e = absurd h
-end_page page (Done n pa q) (bind x y to) h e = absurd h
-end_page page (Done n pa q) (read x y g t o) h e = absurd h
-end_page page (Done n pa q) (branch y t o) h e = absurd h
-end_page page (Fault n c) (fault k) h e = absurd (false≢true e)
-end_page page (Fault n c) (done x q) h e = absurd h
-end_page page (Fault n c) (bind x y to) h e = absurd h
-end_page page (Fault n c) (read x y g t o) h e = absurd h
-end_page page (Fault n c) (branch y t o) h e = absurd h
+-- what the terms of an access's nodes have, whatever values the choices have
+pub record AreNodes (v : Valuation) (d : ModelData) (os : List Out) : Type 0 where
+  pub count : length os ≡ length (steps d)
+  pub flagged : AllOuts (IsFlagged v d.address) (steps d) os
+  pub away : AreTruths v os
+  pub ends : EndsOnce v (steps d) os (told v (steps d) os 0).end
 
-pub page_end : (page : ℕ) (end : End) → is_page page end ≡ true → (p : ActData) → EndsBy p end → ends_page page p ≡ true
-page_end page (Fault n c) e p h = absurd (false≢true e)
-page_end page (Done n pa q) e (done x y) h = eq-eqb y page (sym h ∙ eqb-true q page e)
-page_end page (Done n pa q) e (fault k) h = absurd h
-page_end page (Done n pa q) e (bind x y to) h = absurd h
-page_end page (Done n pa q) e (read x y g t o) h = absurd h
-page_end page (Done n pa q) e (branch y t o) h = absurd h
+pub placed_nodes : (v : Valuation) (d : ModelData) (r : Requests) (k : ℕ) (a : AccessWish) (m : Memory) (os : List Out) → AtAccess v d r k a m → IsPlaced v d r k a os → AreNodes v d os
+placed_nodes v d r k a m os h p = record { count = placed_length v d r k a os p; flagged = placed_flagged v d r k a m os h p; away = placed_away v d r k a m os h p; ends = placed_ends v d r k a m os h p }
+
+-- the terms of all accesses
+abbrev pub AllNodes : Valuation → ModelData → List (List Out) → Type 0
+AllNodes v d oss = AllByRecursion (AreNodes v d) oss
+
+pub told_all : (v : Valuation) (d : ModelData) (oss : List (List Out)) → AllNodes v d oss → map plain (reads_told v (steps d) oss) ≡ all_made v (flat_map (reads_of (steps d)) oss)
+told_all v d [] h = refl
+told_all v d (os ∷ oss) h =
+    map-append plain (told v (steps d) os 0).reads (reads_told v (steps d) oss)
+    ∙ ap (λ (l : List ReadMade). l ++ map plain (reads_told v (steps d) oss)) (told_plain v d.address (steps d) os 0 h.0.flagged)
+    ∙ ap (λ (l : List ReadMade). all_made v (reads_of (steps d) os) ++ l) (told_all v d oss h.1)
+    ∙ sym (made_append v (reads_of (steps d) os) (flat_map (reads_of (steps d)) oss))
+
+pub all_told : (v : Valuation) (d : ModelData) (oss : List (List Out)) → AllNodes v d oss → AreTold v (flat_map (reads_of (steps d)) oss)
+all_told v d [] h = tt
+all_told v d (os ∷ oss) h = AllByRecursion-append (λ (o : Out). v o.by_then ≡ flag (is_made v o)) (reads_of (steps d) os) (flat_map (reads_of (steps d)) oss) (reads_flagged v d.address (steps d) os h.0.flagged) (all_told v d oss h.1)

@@ -1,12 +1,14 @@
 -- The term that stands for an expression has its value.
 use Rattle.std.proofs.Common.{◌≡◌, ℕ, ◌+◌, Bool, true, ◌||◌, List, Option, Some, None, refl, ap, ◌∙◌, subst}
 use Rattle.std.specs.Prelude.{IsSome, slice_index, unwrap_or}
-use Rattle.std.proofs.lemmas.Bool.{false≢true, or_left, or_right, eq-eqb}
+use Rattle.std.proofs.lemmas.Bool.{or_left, or_right, eq-eqb}
+use Rattle.dt_lemmas.proofs.Options.{some_is}
+use Rattle.dt_model.proofs.Fitting.{fitted_parts}
 use Rattle.dt_bits.specs.Ops.{applied, width_of}
 use Rattle.dt_bits.specs.declared.op.Op.{Op}
 use Rattle.dt_bits.specs.declared.value.Bv.{Bv}
 use Rattle.dt_model.specs.ModelData.{Tree, value, reg, input, var, apply1, apply2, apply3}
-use Rattle.dt_model.specs.Widths.{Scope, HasArities, tree_width, fitted, width_at, uses, is_constant}
+use Rattle.dt_model.specs.Widths.{Scope, HasArities, tree_width, width_at, uses, is_constant}
 use Rattle.dt_terms.specs.declared.term.Term.{Term}
 use Rattle.dt_walk.specs.Meaning.{EnvData, Vars, value_at, valued, unused}
 use Rattle.dt_encode.specs.Expressions.{Named}
@@ -15,13 +17,7 @@ use Rattle.dt_encode.specs.Expressions.{form_of, var_form}
 use Rattle.dt_forms.specs.Meaning.{Valuation, IsLawful}
 use Rattle.dt_forms.proofs.FormValues.{form_is}
 use Rattle.dt_forms.specs.Forms.{HasForm}
-use Rattle.dt_forms.proofs.Fitted.{some_if, some_same, fitted_is}
-
-pub fitted_parts : (op : Op) (a b c : Option ℕ) → IsSome (fitted op a b c) → IsSome a × IsSome b × IsSome c
-fitted_parts op (Some a) (Some b) (Some c) h = (refl, refl, refl)
-fitted_parts op None b c h = absurd (false≢true h)
-fitted_parts op (Some a) None c h = absurd (false≢true h)
-fitted_parts op (Some a) (Some b) None h = absurd (false≢true h)
+use Rattle.dt_forms.proofs.Fitted.{some_if, fitted_is}
 
 -- an expression's form has as many operands as its operators take
 pub tree_form : (at : Named) (t : Tree) → HasArities t → HasForm (form_of at t)
@@ -101,10 +97,10 @@ form_wide v at (var x) w k i = by_term (at.vars x) refl
     by_term None e = ap (λ (o : Option ℕ). unwrap_or o 1) i
 form_wide v at (apply1 op x) w k i =
     let p = fitted_is op (tree_width at.scope x) (Some 1) (Some 1) w i in
-    wide_of op _ 1 1 p.0 p.1 p.2 w (form_wide v at x p.0 k p.3) (some_same 1 p.1 p.4) (some_same 1 p.2 p.5) p.6
+    wide_of op _ 1 1 p.0 p.1 p.2 w (form_wide v at x p.0 k p.3) (some_is 1 p.1 p.4) (some_is 1 p.2 p.5) p.6
 form_wide v at (apply2 op x y) w k i =
     let p = fitted_is op (tree_width at.scope x) (tree_width at.scope y) (Some 1) w i in
-    wide_of op _ _ 1 p.0 p.1 p.2 w (form_wide v at x p.0 k p.3) (form_wide v at y p.1 k p.4) (some_same 1 p.2 p.5) p.6
+    wide_of op _ _ 1 p.0 p.1 p.2 w (form_wide v at x p.0 k p.3) (form_wide v at y p.1 k p.4) (some_is 1 p.2 p.5) p.6
 form_wide v at (apply3 op x y z) w k i =
     let p = fitted_is op (tree_width at.scope x) (tree_width at.scope y) (tree_width at.scope z) w i in
     wide_of op _ _ _ p.0 p.1 p.2 w (form_wide v at x p.0 k p.3) (form_wide v at y p.1 k p.4) (form_wide v at z p.2 k p.5) p.6

@@ -1,5 +1,5 @@
 -- The problem of a list has a solving assignment exactly where some image satisfies the list.
-use Rattle.dt_encode.specs.Faithful.{SolutionsAreImages, SolutionsAreMemories, ImagesAreSolutions}
+use Rattle.dt_encode.specs.Faithful.{SolutionsAreImages, SolutionsAreMemories, ImagesAreSolutions, ListsAreProblems}
 use Rattle.std.proofs.Common.{◌≡◌, ℕ, ◌+◌, List, length, Some, true, sym, ap, ◌∙◌, subst, arith}
 use Rattle.std.specs.Prelude.{slice_get}
 use Rattle.std.specs.List.{flat_map}
@@ -10,14 +10,12 @@ use Rattle.dt_model.specs.Faults.{IsAccepted, HaveArities, steps}
 use Rattle.dt_request.specs.declared.list.Requests.{Requests}
 use Rattle.dt_request.specs.Lists.{IsList}
 use Rattle.dt_terms.specs.declared.term.Term.{Term}
-use Rattle.dt_terms.specs.Terms.{AreTerms}
 use Rattle.dt_terms.specs.Values.{IsAssignment, solves}
 use Rattle.dt_walk.specs.Meaning.{env_of, unbound}
 use Rattle.dt_image.specs.declared.image.Image.{Image}
 use Rattle.dt_image.specs.declared.image.ImageAccess.{ImageAccess}
 use Rattle.dt_satisfy.specs.Claims.{registers, run_of}
 use Rattle.dt_satisfy.specs.Satisfies.{Satisfies}
-use Rattle.dt_encode.specs.Meant.{AreMeant}
 use Rattle.dt_encode.specs.Table.{table, choices, names_chosen, access_chosen}
 use Rattle.dt_encode.specs.Images.{image_told}
 use Rattle.dt_encode.specs.Numbers.{access_numbers, numbers_of}
@@ -30,6 +28,8 @@ use Rattle.dt_encode.proofs.Assigned.{FitTerms, terms_join, terms_length, contex
 use Rattle.dt_encode.proofs.Accepted.{ready_from}
 use Rattle.dt_encode.proofs.Theorem.{table_satisfies, image_solves, choice_place, values_range, ones_of}
 use Rattle.dt_encode.proofs.TableMemory.{told_memory}
+use Rattle.dt_encode.proofs.FineTable.{table_terms}
+use Rattle.dt_encode.proofs.FineCount.{table_problem}
 
 run_remembers : (d : ModelData) (i : Image) (a : ImageAccess) → Remembers i.memory (run_of d i a).reads
 run_remembers d i a =
@@ -51,22 +51,23 @@ image_assigned d r i f sat =
     (first_assigned (choices d r) x.0 (numbers_of d i) (λ t l. choice_place (choices d r) x.0 t (are_choices d r) l) (are_choices d r) x.2 (numbers_fit d r i f sat))
 
 -- a solving assignment tells an image that satisfies
-pub to_image : (d : ModelData) (r : Requests) (numbers : List ℕ) → IsAccepted d → HaveArities d → IsList d r → AreMeant d r → AreTerms (table d r).terms → IsAssignment (table d r).terms numbers → solves (table d r) numbers ≡ true
+pub to_image : (d : ModelData) (r : Requests) (numbers : List ℕ) → IsAccepted d → HaveArities d → IsList d r → IsAssignment (table d r).terms numbers → solves (table d r) numbers ≡ true
     → Satisfies d r (image_told (values (table d r).terms numbers) d r)
-to_image d r numbers a h list asks t i s = table_satisfies d r numbers (ready_from d a h) list asks t i s
+to_image d r numbers a h list i s = table_satisfies d r numbers (ready_from d a h) list (table_terms d r a h list) i s
 
 -- a satisfying image gives a solving assignment
-pub from_image : (d : ModelData) (r : Requests) (i : Image) → IsAccepted d → HaveArities d → IsList d r → AreMeant d r → AreTerms (table d r).terms → Fit i.memory.bytes i.memory.words → Satisfies d r i
+pub from_image : (d : ModelData) (r : Requests) (i : Image) → IsAccepted d → HaveArities d → IsList d r → Fit i.memory.bytes i.memory.words → Satisfies d r i
     → IsAssignment (table d r).terms (numbers_of d i) × (solves (table d r) (numbers_of d i) ≡ true)
-from_image d r i a h list asks t f sat =
+from_image d r i a h list f sat =
     let assigned = image_assigned d r i f sat in
-    (assigned, image_solves d r i (ready_from d a h) list asks t assigned (terms_length (choices d r) (numbers_of d i) (numbers_fit d r i f sat)) sat)
+    (assigned, image_solves d r i (ready_from d a h) list (table_terms d r a h list) assigned (terms_length (choices d r) (numbers_of d i) (numbers_fit d r i f sat)) sat)
 
 -- and its memory is a table memory
-pub to_memory : (d : ModelData) (r : Requests) (numbers : List ℕ) → IsAccepted d → HaveArities d → IsList d r → AreTerms (table d r).terms → IsAssignment (table d r).terms numbers → solves (table d r) numbers ≡ true
+pub to_memory : (d : ModelData) (r : Requests) (numbers : List ℕ) → IsAccepted d → HaveArities d → IsList d r → IsAssignment (table d r).terms numbers → solves (table d r) numbers ≡ true
     → IsMemory (image_told (values (table d r).terms numbers) d r).memory
-to_memory d r numbers a h list t i s =
+to_memory d r numbers a h list i s =
     let terms = (table d r).terms in
+    let t = table_terms d r a h list in
     told_memory (values terms numbers) d r a h list (values_range terms numbers t i) (lawful_values terms numbers t) (ones_of terms numbers (table d r).required s)
 
 pub solutions_are_images : SolutionsAreImages
@@ -77,3 +78,6 @@ images_are_solutions = from_image
 
 pub solutions_are_memories : SolutionsAreMemories
 solutions_are_memories = to_memory
+
+pub lists_are_problems : ListsAreProblems
+lists_are_problems = table_problem

@@ -5,11 +5,12 @@ pub mod Expressions
 pub mod Extras
 pub mod Faithful
 pub mod Images
-pub mod Meant
+pub mod Kept
+pub mod Links
 pub mod Numbers
 pub mod Outs
 pub mod Passing
+pub mod Sizes
 pub mod Table
 pub mod Told
 pub mod Words
-pub mod Kept

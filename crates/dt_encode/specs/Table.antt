@@ -1,13 +1,11 @@
--- The problem of a request list: its terms in a fixed order, and those that must be 1. (Of demands on quantities and of links it has nothing yet.)
+-- The problem of a request list: its terms in a fixed order, and those that must be 1.
 use Rattle.std.specs.Prelude.{ℕ, zero, suc, ◌+◌, ◌*◌, ◌==◌, if◌then◌else◌, List, [], ◌∷◌, ◌++◌, length, map, None, replicate}
 use Rattle.std.specs.List.{flat_map}
 use Rattle.dt_bits.specs.Bits.{width}
 use Rattle.dt_model.specs.declared.model.Named.{Named as NamedWidth}
-use Rattle.dt_model.specs.ModelData.{ModelData, ActData}
+use Rattle.dt_model.specs.ModelData.{ModelData}
 use Rattle.dt_model.specs.Widths.{Scope}
 use Rattle.dt_model.specs.Faults.{steps, node_scope, context_scope, access_scope}
-use Rattle.dt_request.specs.declared.list.Demand.{Demand}
-use Rattle.dt_request.specs.declared.list.Demand.TheVariants.{Via, Avoid, Take, EndDone, EndFault, Page}
 use Rattle.dt_request.specs.declared.list.AccessWish.{AccessWish}
 use Rattle.dt_request.specs.declared.list.Requests.{Requests}
 use Rattle.dt_request.specs.Choices.{read_nodes}
@@ -17,13 +15,15 @@ use Rattle.dt_terms.specs.Problem.{ProblemData}
 use Rattle.dt_bits.specs.declared.op.Op.TheVariants.{Const}
 use Rattle.dt_terms.specs.Additions.{node_of}
 use Rattle.dt_encode.specs.Expressions.{Named}
-use Rattle.dt_forms.specs.Forms.{Form, term, all_required}
+use Rattle.dt_forms.specs.Forms.{Form, all_required}
 use Rattle.dt_encode.specs.Expressions.{form_of}
 use Rattle.dt_encode.specs.Passing.{Out, Access, State, walk_placed}
-use Rattle.dt_encode.specs.Claims.{ends_done, ends_fault, ends_page, ends_only, pair_forms, reads_of}
-use Rattle.dt_encode.specs.Outs.{out_at, edge_at}
+use Rattle.dt_encode.specs.Claims.{pair_forms, reads_of}
+use Rattle.dt_encode.specs.Demands.{demand_forms}
+use Rattle.dt_encode.specs.Links.{link_forms}
 use Rattle.dt_encode.specs.Apart.{pages_at, tables_at, apart_forms}
 use Rattle.dt_encode.specs.Kept.{kept_forms}
+use Rattle.dt_encode.specs.Extras.{all_extras}
 
 -- ---- choices: for each context its registers, and then for each access its inputs and a word for each read node
 
@@ -107,19 +107,10 @@ abbrev pub accesses_built : ModelData → Requests → Built → ℕ → List Ac
 accesses_built d r b k [] = b
 accesses_built d r b k (a ∷ more) = accesses_built d r (access_built d r b k a) (k + 1) more
 
--- the terms of a demand
-abbrev pub demand_forms : List ActData → List Out → Demand → List Form
-demand_forms ps os EndDone = ends_only ends_done ps os
-demand_forms ps os (EndFault code) = ends_only (ends_fault code) ps os
-demand_forms ps os (Via n) = term (out_at os n).come ∷ []
-demand_forms ps os (Avoid n) = term (out_at os n).away ∷ []
-demand_forms ps os (Take n by_then) = term (edge_at by_then (out_at os n)) ∷ []
-demand_forms ps os (Page exponent) = ends_only (ends_page exponent) ps os
-demand_forms ps os _ = []
-
-abbrev pub wish_forms : List ActData → List AccessWish → List (List Out) → List Form
-wish_forms ps (a ∷ more) (os ∷ oss) = flat_map (demand_forms ps os) a.demands ++ wish_forms ps more oss
-wish_forms ps _ _ = []
+-- what must be 1 for the demands of these accesses, of which the first is number k
+abbrev pub wish_forms : ModelData → Requests → ℕ → List AccessWish → List (List Out) → List Form
+wish_forms d r k (a ∷ more) (os ∷ oss) = flat_map (demand_forms d (access_of d r k a) os) a.demands ++ wish_forms d r (k + 1) more oss
+wish_forms d r k _ _ = []
 
 -- what blocks need to know
 abbrev pub list_access : ModelData → Requests → Access
@@ -133,13 +124,18 @@ page_forms d r outs = apart_forms (list_access d r) (flat_map (pages_at (steps d
 abbrev pub keep_forms : ModelData → Requests → List (List Out) → List Form
 keep_forms d r outs = flat_map (kept_forms (list_access d r) (flat_map (pages_at (steps d)) outs) (flat_map (tables_at (steps d)) outs)) r.kept
 
--- the claims that are no rule: demands, reads at one cell, pages, and kept ranges
+-- demands, links, pages and kept ranges
+abbrev pub list_forms : ModelData → Requests → List (List Out) → List Form
+list_forms d r outs =
+    wish_forms d r 0 r.accesses outs ++ (flat_map (link_forms d (list_access d r) outs) r.links ++ (page_forms d r outs ++ keep_forms d r outs))
+
+-- the claims that are no rule: made reads at one cell have one word, and what the list asks
 abbrev pub claim_forms : ModelData → Requests → List (List Out) → List Form
-claim_forms d r outs = wish_forms (steps d) r.accesses outs ++ pair_forms (flat_map (reads_of (steps d)) outs) ++ page_forms d r outs ++ keep_forms d r outs
+claim_forms d r outs = pair_forms (flat_map (reads_of (steps d)) outs) ++ list_forms d r outs
 
 -- further forms that hold of each image that satisfies
 abbrev pub extra_forms : ModelData → Requests → List (List Out) → List Form
-extra_forms d r outs = []
+extra_forms d r outs = all_extras (steps d) r.accesses outs
 
 abbrev pub bit_node : ℕ → Term
 bit_node n = node_of [] (Const (record { width = width 1; bits = n })) 0 0 0

@@ -3,10 +3,12 @@
 //!
 //! Proved, as laws over the definition of the problem: numbers for the choices that make each
 //! required term 1 tell an image that satisfies the list, and each image that satisfies gives such
-//! numbers. So far the lists have no links, and no demand on bits or a span of a quantity; and it is
-//! a premise that the problem's terms are well formed. There is no code yet that builds the problem.
+//! numbers; and a list within the limits has a problem, with room for all its terms. There is no code
+//! yet that builds the problem.
 #![tactic(auto)]
 
 mod faithful;
 
-pub use faithful::{images_are_solutions, solutions_are_images, solutions_are_memories};
+pub use faithful::{
+    images_are_solutions, lists_are_problems, solutions_are_images, solutions_are_memories,
+};

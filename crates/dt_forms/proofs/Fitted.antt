@@ -14,6 +14,3 @@ fitted_is op (Some a) (Some b) (Some c) w h = (a, b, c, refl, refl, refl, (some_
 fitted_is op None b c w h = absurd (cc)
 fitted_is op (Some a) None c w h = absurd (cc)
 fitted_is op (Some a) (Some b) None w h = absurd (cc)
-
-pub some_same : (x y : ℕ) → Some x ≡ Some y → x ≡ y
-some_same x y e = cc

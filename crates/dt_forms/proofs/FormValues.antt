@@ -82,8 +82,11 @@ not_form v f p e = ap (λ (x : Bv). applied Not x nothing nothing) e ∙ not_fla
 pub both_form : (v : Valuation) (f g : Form) (p q : Bool) → form_value v f ≡ flag p → form_value v g ≡ flag q → form_value v (both_of f g) ≡ flag (p && q)
 both_form v f g p q e k = ap (λ (x : Bv). applied And x (form_value v g) nothing) e ∙ ap (λ (x : Bv). applied And (flag p) x nothing) k ∙ and_flags p q nothing
 
+pub or_form : (v : Valuation) (f g : Form) (p q : Bool) → form_value v f ≡ flag p → form_value v g ≡ flag q → form_value v (form2 Or f g) ≡ flag (p || q)
+or_form v f g p q e k = ap (λ (x : Bv). applied Or x (form_value v g) nothing) e ∙ ap (λ (x : Bv). applied Or (flag p) x nothing) k ∙ or_flags p q nothing
+
 pub implies_form : (v : Valuation) (f g : Form) (p q : Bool) → form_value v f ≡ flag p → form_value v g ≡ flag q → form_value v (implies f g) ≡ flag (not p || q)
-implies_form v f g p q e k = ap (λ (x : Bv). applied Or x (form_value v g) nothing) (not_form v f p e) ∙ ap (λ (x : Bv). applied Or (flag (not p)) x nothing) k ∙ or_flags (not p) q nothing
+implies_form v f g p q e k = or_form v (not_of f) g (not p) q (not_form v f p e) k
 
 pub same_form : (v : Valuation) (f g : Form) → form_value v (same_of f g) ≡ flag (eqb (form_value v f).bits (form_value v g).bits)
 same_form v f g = refl

@@ -1,3 +1,4 @@
+pub mod Fine
 pub mod Fitted
 pub mod FormValues
 pub mod Forms
@@ -5,3 +6,4 @@ pub mod Lawful
 pub mod Proved
 pub mod Real
 pub mod Sizes
+pub mod Tells

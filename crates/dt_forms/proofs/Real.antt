@@ -1,11 +1,9 @@
 -- The values of a problem's terms are lawful.
 use Rattle.dt_forms.specs.Meaning.{values}
-use Rattle.std.proofs.Common.{◌≡◌, ℕ, ◌<◌, List, take, refl, sym, ap, ◌∙◌, arith}
+use Rattle.std.proofs.Common.{◌≡◌, ℕ, ◌<◌, List, take, refl, sym, ap, ◌∙◌}
 use Rattle.std.proofs.lemmas.List.{get_or-take}
-use Rattle.dt_bits.specs.Ops.{arity_of, value_of}
-use Rattle.dt_bits.specs.declared.op.Op.{Op}
-use Rattle.dt_bits.specs.declared.op.Op.TheVariants.{Const, Not, And, Or, Xor, Add, Sub, Slice, Concat, SignExt, Shl, Shr, Eq, Ltu, Ite}
-use Rattle.dt_bits.specs.declared.value.Bv.{Bv}
+use Rattle.dt_bits.specs.Ops.{value_of}
+use Rattle.dt_bits.proofs.Operators.{value_used}
 use Rattle.dt_bits.specs.declared.value.Width.{Width}
 use Rattle.dt_terms.specs.declared.term.Term.{Term}
 use Rattle.dt_terms.specs.declared.term.Term.TheVariants.{Choice, Node}
@@ -14,25 +12,6 @@ use Rattle.dt_terms.specs.Values.{values_of, bv_at, value_of_term}
 use Rattle.dt_terms.proofs.Valued.{value_is}
 use Rattle.dt_terms.proofs.Placed.{placed, fits_parts}
 use Rattle.dt_forms.specs.Meaning.{HasValue, IsLawful}
-
--- operands that the operator doesn't have don't count
-same_bits : (op : Op) (a b c x y z : Bv) → (0 < arity_of op → a ≡ x) → (1 < arity_of op → b ≡ y) → (2 < arity_of op → c ≡ z) → value_of op a b c ≡ value_of op x y z
-same_bits (Const v) a b c x y z p q r = refl
-same_bits Not a b c x y z p q r = let e : a ≡ x = p (omega arith) in ap (λ (u : Bv). value_of Not u b c) e
-same_bits And a b c x y z p q r = let e : a ≡ x = p (omega arith) in let f : b ≡ y = q (omega arith) in cc
-same_bits Or a b c x y z p q r = let e : a ≡ x = p (omega arith) in let f : b ≡ y = q (omega arith) in cc
-same_bits Xor a b c x y z p q r = let e : a ≡ x = p (omega arith) in let f : b ≡ y = q (omega arith) in cc
-same_bits Add a b c x y z p q r = let e : a ≡ x = p (omega arith) in let f : b ≡ y = q (omega arith) in cc
-same_bits Sub a b c x y z p q r = let e : a ≡ x = p (omega arith) in let f : b ≡ y = q (omega arith) in cc
-same_bits (Slice hi lo) a b c x y z p q r = let e : a ≡ x = p (omega arith) in cc
-same_bits Concat a b c x y z p q r = let e : a ≡ x = p (omega arith) in let f : b ≡ y = q (omega arith) in cc
-same_bits (SignExt to) a b c x y z p q r = let e : a ≡ x = p (omega arith) in cc
-same_bits (Shl by) a b c x y z p q r = let e : a ≡ x = p (omega arith) in cc
-same_bits (Shr by) a b c x y z p q r = let e : a ≡ x = p (omega arith) in cc
-same_bits Eq a b c x y z p q r = let e : a ≡ x = p (omega arith) in let f : b ≡ y = q (omega arith) in cc
-same_bits Ltu a b c x y z p q r = let e : a ≡ x = p (omega arith) in let f : b ≡ y = q (omega arith) in cc
-same_bits Ite a b c x y z p q r =
-    let e : a ≡ x = p (omega arith) in let f : b ≡ y = q (omega arith) in let g : c ≡ z = r (omega arith) in cc
 
 pub lawful_values : (terms : List Term) (numbers : List ℕ) → AreTerms terms → IsLawful (values terms numbers) terms
 lawful_values terms numbers h t l = by_term (term_at terms t) refl
@@ -47,5 +26,5 @@ lawful_values terms numbers h t l = by_term (term_at terms t) refl
         let f = fits_parts op _ _ _ w p.fits in
         ap (λ (n : ℕ). record { width = width_of_term (term_at terms t); bits = n })
         (value_is terms numbers t l ∙ ap (value_of_term terms numbers (take t (values_of terms numbers)) t) e
-        ∙ same_bits op _ _ _ _ _ _ (λ m. same_at a (p.a_before m)) (λ m. same_at b (p.b_before m)) (λ m. same_at c (p.c_before m)))
+        ∙ value_used op _ _ _ _ _ _ (λ m. same_at a (p.a_before m)) (λ m. same_at b (p.b_before m)) (λ m. same_at c (p.c_before m)))
         ∙ ap (λ (w2 : Width). record { width = w2; bits = value_of op (bv_at terms (values_of terms numbers) a) (bv_at terms (values_of terms numbers) b) (bv_at terms (values_of terms numbers) c) }) (ap width_of_term e ∙ sym f.1)

@@ -38,6 +38,9 @@ grows_on xs ys zs j k g h = record {
   same = λ t l. h.same t (omega (arith, l, g.longer)) ∙ g.same t l;
 }
 
+pub grows_within : (xs ys : List Term) (j k : ℕ) → j ≤ k → Grows xs ys j → Grows xs ys k
+grows_within xs ys j k l g = record { terms_are = g.terms_are; longer = g.longer; most = omega (arith, l, g.most); same = g.same }
+
 pub put_grows : (terms : List Term) (x : Term) → AreTerms terms → IsTerm terms x → IsPut terms (put terms x).terms (put terms x).at (width_of_term x).0 1
 put_grows terms x h i = by_place (position (same_term x) terms) refl
   where
@@ -116,9 +119,9 @@ three_fits terms op a b c m n o w r l j k e g h f =
     (and_from _ _ (or_right _ _ (lt-ltb a (length terms) l)) (and_from _ _ (or_right _ _ (lt-ltb b (length terms) j)) (or_right _ _ (lt-ltb c (length terms) k))))
     (fits_parts op _ _ _ (width w) (three_of terms op a b c m n o w r l j k e g h f)).0
 
--- a node whose operands fit, where there is room
+-- a node whose operands fit; it can be placed where there is room
 pub record IsPlacedAt (terms : List Term) (op : Op) (a b c w : ℕ) : Type 0 where
-  pub can : FitsPlace terms op a b c
+  pub can : length terms + 1 ≤ most_terms → FitsPlace terms op a b c
   pub put_is : IsPut terms (place terms op a b c).terms (place terms op a b c).at w 1
 
 fault_parts : (b q : Bool) → cond (not b) (Some Operand) (cond (not q) (Some Width) None) ≡ None → (b ≡ true) × (q ≡ true)
@@ -126,11 +129,11 @@ fault_parts true true e = (refl, refl)
 fault_parts true false e = absurd (cc)
 fault_parts false q e = absurd (cc)
 
-pub place_can : (terms : List Term) (op : Op) (a b c w : ℕ) → AreTerms terms → IsOp op → operands_fault terms op a b c ≡ None → (width_of_term (node_of terms op a b c)).0 ≡ w → IsWidth w → length terms + 1 ≤ most_terms → IsPlacedAt terms op a b c w
-place_can terms op a b c w h i f e k room =
+pub place_can : (terms : List Term) (op : Op) (a b c w : ℕ) → AreTerms terms → IsOp op → operands_fault terms op a b c ≡ None → (width_of_term (node_of terms op a b c)).0 ≡ w → IsWidth w → IsPlacedAt terms op a b c w
+place_can terms op a b c w h i f e k =
     let p = fault_parts (are_named terms op a b c) (is_fit terms op a b c) f in
     let q = put_grows terms (node_of terms op a b c) h (node_is terms op a b c i p.0 p.1 (subst IsWidth (sym e) k)) in
     record {
-      can = record { op_is = i; fits = f; room = omega (arith, q.grows.most, room) };
+      can = λ room. record { op_is = i; fits = f; room = omega (arith, q.grows.most, room) };
       put_is = record { grows = q.grows; within = q.within; bits = q.bits ∙ e };
     }

@@ -7,6 +7,7 @@ ghost use Rattle.dt_modeltext.specs.Expr.{expr_at, small_at};
 ghost use Rattle.dt_modeltext.specs.Line.{named_at, node_at, plain_line, rule_of, spelled};
 ghost use Rattle.dt_modeltext.specs.Entry.{section_of};
 ghost use Rattle.dt_modeltext.specs.Draft.{positions_of, line_data};
+ghost use Rattle.dt_lex.specs.Frame.{lone};
 
 use crate::act::act_at;
 use crate::depth::MAX_DEPTH;
@@ -16,7 +17,6 @@ use crate::token::{name_at, small_at};
 use dt_lex::{ANY, ONE, Section, is_alone, is_nothing, next_token};
 use dt_model::{Expr, Named, Node};
 use std::alloc::AllocError;
-ghost use Rattle.dt_lex.specs.Frame.{lone};
 
 /// The sections of a text, each of one kind of line: the header, the bits of a word and of an
 /// address, registers, inputs, variables, rules on contexts and on accesses, nodes, and the end.

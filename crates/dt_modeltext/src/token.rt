@@ -6,12 +6,12 @@ ghost use Rattle.dt_model.specs.ModelData.{tree_of};
 ghost use Rattle.dt_modeltext.specs.Expr.{small_of, decimal_of, is_colon, constant_of, named, atom_of, small_at, closing};
 ghost use Rattle.dt_modeltext.specs.Act.{target, variable};
 ghost use Rattle.dt_modeltext.specs.Draft.{positions_of};
+ghost use Rattle.dt_lex.specs.Frame.{name_at};
 
 use crate::parser::Front;
 use crate::symbols::Symbols;
 use dt_lex::{Name, next_token, number};
 use dt_model::Expr;
-ghost use Rattle.dt_lex.specs.Frame.{name_at};
 
 /// The position of what isn't declared.
 const UNKNOWN: u32 = u32::MAX;

@@ -19,7 +19,7 @@ use Rattle.dt_box.specs.Steps.{IsStep, IsNodeTerm, HasPlace, operand_at, target,
 use Rattle.dt_box.specs.Stillness.{HasNoEmpty, IsSettled, tells, origin}
 use Rattle.dt_box.specs.Neighbours.{uses, is_near}
 use Rattle.dt_box.specs.Watching.{users_of, watches_of, Covers}
-use Rattle.dt_box.proofs.Watching.{far_tells, users_at_term, user_in, near_origin, place_of}
+use Rattle.dt_box.proofs.Watching.{far_tells, users_at_term, user_in, near_origin, place_of, origin_in}
 use Rattle.dt_box.proofs.Words.{stays}
 use Rattle.dt_propagate.specs.declared.marks.Marks.{Marks}
 use Rattle.dt_propagate.specs.Marks.{is_marked, position, Grows, AreMarkedAt, AreMarkedNear}
@@ -30,10 +30,6 @@ use Rattle.dt_box.specs.Unknown.{unknown_of}
 -- the users of a term are those of the watches
 pub users_are : (terms : List Term) (watches : List (List ℕ)) → watches ≡ watches_of terms → (t : ℕ) → t < length terms → get_or watches t [] ≡ users_of terms t
 users_are terms watches w t l = ap (λ ws. get_or ws t []) w ∙ users_at_term terms t l
-
-origin_in : (terms : List Term) (s : Step) → IsStep terms s → origin s < length terms
-origin_in terms (Forward t) h = h.0
-origin_in terms (Backward t k) h = h.0
 
 -- a node uses its operand at each place that it has
 uses_at : (node : Term) (k : ℕ) → HasPlace node k → uses node (operand_at node k) ≡ true

@@ -32,4 +32,3 @@ chained P Q (Some x) f h k = k x h
 pub itself : {X : Type 0} (o : Option X) → IfSome o (λ x. o ≡ Some x)
 itself None = tt
 itself (Some x) = refl
-

@@ -4,10 +4,10 @@ ghost use Rattle.dt_lex.specs.Text.{tokens_of};
 ghost use Rattle.dt_request.specs.declared.asked.AskedDemand.TheVariants as asked;
 ghost use Rattle.dt_request.specs.declared.asked.Line.TheVariants as line;
 ghost use Rattle.dt_request.specs.Line.{names_at, numbers_at, named_quantity, quantity_behind, quantity_at, measured_at, branch_of, take_of, ends_of, demand_of, side_at, sides_at, share_of, apart_of, header_of, spelled};
+ghost use Rattle.dt_lex.specs.Frame.{name_at, number_at, lone};
 
 use crate::asked::{AskedDemand, AskedLink, AskedQuantity, AskedSide, Line};
 use dt_lex::{Name, is_alone, is_nothing, next_token, number};
-ghost use Rattle.dt_lex.specs.Frame.{name_at, number_at, lone};
 
 /// What stands at the front of a text and what stands behind it, where the tokens spell it.
 type Front<'t, T> = Option<(T, &'t [u8])>;

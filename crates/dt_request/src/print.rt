@@ -147,7 +147,7 @@ fn push_demand(out: &mut Vec<u8>, model: &Model, demand: Demand) -> Result<(), A
     }
 }
 
-#[tactic(auto, using(crate::proofs::Printed::rows_more))]
+#[tactic(auto, using(dt_lex::proofs::Rows::rows_more))]
 fn push_demands(out: &mut Vec<u8>, model: &Model, demands: &[Demand]) -> Result<(), AllocError>
     ensures { OnOk result (out.new.items
         ≡ out.old.items ++ text_of (map (demand_row (data_of model.now)) demands.now)) }
@@ -266,7 +266,7 @@ fn push_link(
     }
 }
 
-#[tactic(auto, using(crate::proofs::Printed::rows_more))]
+#[tactic(auto, using(dt_lex::proofs::Rows::rows_more))]
 fn push_links(
     out: &mut Vec<u8>,
     model: &Model,
@@ -292,7 +292,7 @@ fn push_bounds(out: &mut Vec<u8>, word: &[u8], lo: u128, hi: u128) -> Result<(),
     push_row(out, word, &[Piece::Hex(lo), Piece::Hex(hi)])
 }
 
-#[tactic(auto, using(crate::proofs::Printed::rows_more))]
+#[tactic(auto, using(dt_lex::proofs::Rows::rows_more))]
 fn push_kept(out: &mut Vec<u8>, kept: &[KeptRange]) -> Result<(), AllocError>
     ensures { OnOk result (out.new.items ≡ out.old.items ++ text_of (map keep_row kept.now)) }
 {
@@ -308,7 +308,7 @@ fn push_context(out: &mut Vec<u8>, name: &Name) -> Result<(), AllocError>
     push_row(out, b"context", &[Piece::Word(name.bytes())])
 }
 
-#[tactic(auto, using(crate::proofs::Printed::rows_more))]
+#[tactic(auto, using(dt_lex::proofs::Rows::rows_more))]
 fn push_contexts(out: &mut Vec<u8>, contexts: &[Name]) -> Result<(), AllocError>
     ensures { OnOk result (out.new.items ≡ out.old.items ++ text_of (map context_row contexts.now)) }
 {

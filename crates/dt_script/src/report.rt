@@ -3,9 +3,8 @@ use crate::parts::{Case, Part};
 use crate::script::parts_of;
 use dt_edge::{FileShelf, OutSink, Shelf, Sink};
 use std::alloc::{AllocError, Global};
-use std::env;
 use std::process::ExitCode;
-use std::str;
+use std::{env, str};
 
 /// The most bytes of a file of cases.
 const LIMIT: u64 = 16_777_216;

@@ -33,7 +33,7 @@ fn push_named(out: &mut Vec<u8>, kind: &[u8], named: &Named) -> Result<(), Alloc
 }
 
 /// Registers, inputs or variables.
-#[tactic(auto, using(crate::proofs::PrintedPieces::rows_more))]
+#[tactic(auto, using(dt_lex::proofs::Rows::rows_more))]
 pub fn push_names(out: &mut Vec<u8>, kind: &[u8], names: &[Named]) -> Result<(), AllocError>
     ensures { OnOk result (
         out.new.items ≡ out.old.items ++ text_of (map (named_row kind.now) names.now)) }
@@ -56,7 +56,7 @@ fn push_rule(out: &mut Vec<u8>, model: &Model, kind: &[u8], e: &Expr) -> Result<
 }
 
 /// Rules on contexts or on accesses.
-#[tactic(auto, using(crate::proofs::PrintedPieces::rows_more))]
+#[tactic(auto, using(dt_lex::proofs::Rows::rows_more))]
 pub fn push_rules(
     out: &mut Vec<u8>,
     model: &Model,
@@ -130,7 +130,7 @@ fn push_node(out: &mut Vec<u8>, model: &Model, node: &Node) -> Result<(), AllocE
 }
 
 /// The nodes.
-#[tactic(auto, using(crate::proofs::PrintedPieces::rows_more))]
+#[tactic(auto, using(dt_lex::proofs::Rows::rows_more))]
 pub fn push_nodes(out: &mut Vec<u8>, model: &Model) -> Result<(), AllocError>
     ensures { OnOk result (out.new.items ≡ out.old.items ++ text_of (map (λ n. node_row
         (node_scope (data_of model.now)) (data_of model.now).nodes (node_of n)) model.now.nodes)) }

@@ -4,6 +4,7 @@ use Rattle.dt_check.specs.Reading.{Reading, after_line, end_verdict, at_first, v
 use Rattle.dt_check.specs.Waiting.{waiting}
 use Rattle.dt_check.specs.Checking.{state_of, reading_at, IsFound}
 use Rattle.dt_check.proofs.Loop.{Owed, owed_none, owed_past, owed_next, owed_begun, verdict_begun, line_passed, line_refused, line_ended}
+use Rattle.dt_check.proofs.Trying.{trial_begun}
 use Rattle.dt_check.proofs.check.read_items.Goals as goal
 
 pub loop-at-init : goal.loop-at-init
@@ -18,7 +19,7 @@ loop-at-init g c =
       verdict = verdict_begun D ops p log.claim log.lines (reading_at ops s c.new-tries.result.items) r;
       owed = owed_begun D ops p log.claim log.lines (reading_at ops s c.new-tries.result.items) r log.tree;
       state = c.in_ok-checker.ensures.state log.claim;
-      room = c.in_ok-trial.ensures;
+      trial = trial_begun D ops p.terms s.cells s.trail c.in_ok-trial.trial c.in_ok-trial.ensures;
       splits = omega (arith, c.in_ok-checker.ensures.splits);
     }
 
@@ -41,7 +42,7 @@ loop-at-preserved g c =
       owed = subst (λ (r : Reading D). Owed (length r.stack) (drop (c.loop-at.at + 1) log.lines)) (sym next)
           (owed_next D ops p.terms log.lines c.loop-at.at line s.cells (waiting ops s.cells s.trail (reverse s.pending)) tries s.splits s.opened l c.at-line.ensures c.loop-at.invariant.owed);
       state = here.2;
-      room = c.in_ok-read_line.ensures.room;
+      trial = c.in_ok-read_line.ensures.trial;
       splits = omega (arith, c.loop-at.invariant.splits, c.in_ok-read_line.ensures.splits);
     }
 

@@ -1,6 +1,6 @@
-use Rattle.std.proofs.Common.{◌≡◌, ℕ, List, length, replicate, ap, sym, subst, ◌∙◌, rules}
+use Rattle.std.proofs.Common.{◌≡◌, ℕ, length, replicate, ap, sym, subst, ◌∙◌, rules}
 use Rattle.dt_terms.specs.Terms.{choices_of}
-use Rattle.dt_terms.specs.Values.{IsAssignment, values_of}
+use Rattle.dt_terms.specs.Values.{IsAssignment}
 use Rattle.dt_check.proofs.Evaluating.{zeros_are}
 use Rattle.dt_check.proofs.evaluation.first_values.Goals as goal
 

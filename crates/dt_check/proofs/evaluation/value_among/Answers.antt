@@ -1,8 +1,8 @@
-use Rattle.std.proofs.Common.{◌≡◌, ◌<◌, ◌^◌, length, ap, ◌∙◌, subst, rules}
+use Rattle.std.proofs.Common.{◌≡◌, ◌<◌, ◌^◌, ap, ◌∙◌, subst}
 use Rattle.dt_bits.specs.Ops.{width_of}
 use Rattle.dt_terms.specs.Terms.{bits_at}
 use Rattle.dt_terms.proofs.Placed.{fits_parts}
-use Rattle.dt_terms.proofs.Valued.{choice_number, node_there, node_bits, bv_is}
+use Rattle.dt_terms.proofs.Valued.{node_there, node_bits, bv_is}
 use Rattle.dt_check.proofs.evaluation.value_among.Goals as goal
 
 pub value_at-first-requires-clause-term : goal.value_at-first-requires-clause-term

@@ -1,4 +1,3 @@
-use Rattle.std.proofs.Common.{◌≡◌, ◌≤◌, ◌<◌, length, ℕ}
 use Rattle.dt_check.specs.Marks.{HasNone}
 use Rattle.dt_check.proofs.marks.first_between.Given as goal
 

@@ -3,10 +3,11 @@ use Rattle.dt_box.specs.Trails.{back, IsKept}
 use Rattle.dt_box.specs.Steps.{after_bit}
 use Rattle.dt_check.specs.Waiting.{Stacked, waiting}
 use Rattle.dt_check.proofs.Waiting.{next_begun, stacked_first, turned}
+use Rattle.dt_check.proofs.Trying.{trial_kept}
 use Rattle.dt_check.proofs.turning.next_tree.Goals as goal
 
-pub undo-requires-clause-length : goal.undo-requires-clause-length
-undo-requires-clause-length g c =
+pub undo-requires-clause-to : goal.undo-requires-clause-to
+undo-requires-clause-to g c =
     stacked_first (length c.args.trail.now) c.in-Some.split (reverse c.pop.new.self.items)
     (subst (Stacked (length c.args.trail.now)) (turned c.args.pending.now.items c.pop.new.self.items c.in-Some.split c.in-Some.ensures.items) c.requires.stacked)
 
@@ -15,7 +16,7 @@ returns-in_ok-set_bit_kept-in-Some-clause-next g c =
     let D = g.row.D.Denot in
     let ops = g.D.Domain.ops in
     let e = turned c.args.pending.now.items c.pop.new.self.items c.in-Some.split c.in-Some.ensures.items in
-    next_begun D ops c.args.cells.now c.args.trail.now c.in-Some.split (reverse c.pop.new.self.items) c.undo.new.self c.undo.new.trail c.set_bit_kept.new.self c.set_bit_kept.new.trail
+    next_begun D ops c.args.cells.now c.args.trail.now c.in-Some.split (reverse c.pop.new.self.items) c.undo.new.cells c.undo.new.trail c.set_bit_kept.new.self c.set_bit_kept.new.trail
     c.undo.ensures.cells c.undo.ensures.trail c.in_ok-set_bit_kept-in-Some.ensures.cells c.set_bit_kept.ensures.kept (subst (Stacked (length c.args.trail.now)) e c.requires.stacked)
     ∙ ap (waiting ops c.args.cells.now c.args.trail.now) (sym e)
 
@@ -29,3 +30,8 @@ returns-in_ok-set_bit_kept-in-Some-clause-begun g c =
       kept = subst (λ t. IsKept (back c.args.cells.now c.args.trail.now q.length) t c.set_bit_kept.new.self c.set_bit_kept.new.trail) c.undo.ensures.trail
           (subst (λ b. IsKept b c.undo.new.trail c.set_bit_kept.new.self c.set_bit_kept.new.trail) c.undo.ensures.cells c.set_bit_kept.ensures.kept);
     }
+
+pub returns-in_ok-set_bit_kept-in-Some-clause-trial : goal.returns-in_ok-set_bit_kept-in-Some-clause-trial
+returns-in_ok-set_bit_kept-in-Some-clause-trial g c =
+    trial_kept g.row.D.Denot g.D.Domain.ops c.args.problem.now.terms c.undo.new.cells c.set_bit_kept.new.self c.undo.new.trail c.set_bit_kept.new.trail c.undo.new.self
+    c.set_bit_kept.ensures.kept c.undo.ensures.trial

@@ -1,5 +1,6 @@
 use Rattle.std.proofs.Common.{◌≡◌, ℕ, ◌<◌, List, length, set, sym, ap, ◌∙◌, subst, arith, MatchOption}
 use Rattle.std.proofs.lemmas.List.{get_or_read}
+use Rattle.dt_lemmas.proofs.Equalities.{two}
 use Rattle.dt_bits.specs.Bits.{width}
 use Rattle.dt_terms.specs.Terms.{AreTerms}
 use Rattle.dt_box.specs.Cells.{cell_at, AreCells}
@@ -49,6 +50,3 @@ returns-clause-are g c =
     are_put ops (AreCells ops problem.terms) (MatchOption result (new ≡ c.index_mut-cell.result.now) (λ n. new ≡ n)) (c.put_kept.new.changes.items ≡ c.trail.inside.changes.items) cells t new c.index_mut-cell.result.now (narrowed ops problem.terms step cells) (ops.full (width 1))
     c.put_kept.result within old c.put_kept.ensures.cell c.put_kept.ensures.err
     (λ put. of_meet D ops _ _ (λ d. new ≡ d) result c.narrowed-narrowed.ensures.value (subst (λ d. MatchOption result (new ≡ d) (λ n. new ≡ n)) cell put) ∙ made) now after
-  where
-    two : {A B C : Type 0} (f : A → B → C) {a x : A} {b y : B} → a ≡ x → b ≡ y → f a b ≡ f x y
-    two f p q = cc

@@ -1,5 +1,4 @@
-use Rattle.std.proofs.Common.{◌≡◌, ℕ, ◌<◌, ◌≤◌, List, length, ap, subst, arith, rules}
-use Rattle.dt_terms.specs.declared.term.Term.{Term}
+use Rattle.std.proofs.Common.{◌<◌, ◌≤◌, length, subst, arith, rules}
 use Rattle.dt_terms.specs.Problem.{ProblemData, most_terms}
 use Rattle.dt_check.proofs.evaluation.Evaluation.evaluate_marked.Goals as goal
 

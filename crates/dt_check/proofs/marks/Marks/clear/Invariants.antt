@@ -1,5 +1,4 @@
 use Rattle.std.proofs.Common.{◌≡◌}
-use Rattle.dt_check.specs.Marks.{AreCovered}
 use Rattle.dt_check.proofs.marks.Marks.clear.Given as goal
 
 -- the marks are as they were

@@ -1,4 +1,4 @@
-use Rattle.std.proofs.Common.{◌≡◌, ◌<◌, false, true, get_or, length, subst, sym, arith}
+use Rattle.std.proofs.Common.{◌≡◌, false, true, get_or, subst, arith}
 use Rattle.std.proofs.lemmas.List.{get_or_default}
 use Rattle.dt_check.proofs.marks.Marks.mark_all.Goals as goal
 

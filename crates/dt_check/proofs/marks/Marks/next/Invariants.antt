@@ -1,4 +1,4 @@
-use Rattle.std.proofs.Common.{◌≡◌, ◌*◌}
+use Rattle.std.proofs.Common.{◌*◌}
 use Rattle.dt_check.specs.Marks.{HasNone}
 use Rattle.dt_check.proofs.marks.Marks.next.Given as goal
 

@@ -1,21 +1,29 @@
-use Rattle.std.proofs.Common.{sym, subst}
-use Rattle.dt_terms.specs.Terms.{AreTerms}
-use Rattle.dt_terms.specs.Values.{IsAssignment}
-use Rattle.dt_check.specs.Trials.{IsTry, tried}
-use Rattle.dt_check.specs.Tests.{is_try}
-use Rattle.dt_check.proofs.Testing.{each_from, try_is}
-use Rattle.dt_check.proofs.Bound.{tried_holds, held_assignment}
+use Rattle.std.proofs.Common.{◌≡◌, List, length, sym, ap, ◌∙◌, subst, arith}
+use Rattle.dt_terms.specs.Values.{solves}
+use Rattle.dt_box.specs.Trails.{back}
+use Rattle.dt_box.proofs.Trails.{back_whole}
+use Rattle.dt_check.specs.Trying.{ArePicked}
+use Rattle.dt_check.proofs.Trying.{picked_values}
 use Rattle.dt_check.proofs.trial.Trial.solves.Goals as goal
 
-pub eval-requires-clause-numbers : goal.eval-requires-clause-numbers
-eval-requires-clause-numbers g c =
+pub returns-clause-solves : goal.returns-clause-solves
+returns-clause-solves g c = c.eval.ensures.solves ∙ ap (solves c.args.problem.now) c.take_tries.ensures.numbers
+
+pub returns-clause-trial : goal.returns-clause-trial
+returns-clause-trial g c =
     let D = g.row.D.Denot in
     let ops = g.D.Domain.ops in
     let terms = c.args.problem.now.terms in
     let cells = c.args.cells.now in
-    let tries = c.args.tries.now in
-    let right : AreTerms terms = subst (λ p. AreTerms p.terms) c.problem.view_is c.problem.invariant.0.terms in
-    let held = each_from (is_try ops terms cells) (IsTry ops terms cells) (try_is D ops terms cells) tries c.requires.tries in
-    subst (IsAssignment terms) (sym c.write_tried.ensures)
-    (held_assignment D ops g.met.D.Domain.laws terms right cells (tried ops terms cells tries) c.requires.cells
-    (tried_holds D ops g.met.D.Domain.laws terms right cells tries c.requires.cells c.requires.held held))
+    let trail = c.args.trail.now in
+    let trial = c.take_tries.new.self in
+    let marks = trial.changed.marks.items in
+    let values = c.eval.new.self.values.items in
+    let seen : trial.seen ≡ length trail = c.take_tries.ensures.seen ∙ c.take_picks.ensures.seen ∙ c.note_changes.ensures.seen in
+    record {
+      watches = c.take_tries.ensures.trying.watches;
+      evaluated = c.eval.ensures.evaluated;
+      seen = omega (arith, seen);
+      picked = subst (λ (ds : List D). ArePicked ops terms ds marks values) (sym (ap (back cells trail) seen ∙ back_whole cells trail))
+          (picked_values D ops terms cells marks trial.evaluation.values.items values c.eval.ensures.choices c.take_tries.ensures.trying.picked);
+    }

@@ -1,0 +1,6 @@
+pub mod Writes
+pub mod Loops
+pub mod Gathers
+pub mod Alike
+pub mod Choosing
+pub mod Triples

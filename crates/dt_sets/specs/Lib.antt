@@ -1,0 +1,10 @@
+pub mod Lists
+pub mod Sets
+pub mod Gather
+pub mod Forward
+pub mod Backward
+pub mod Ops
+pub mod Laws
+pub mod Triple
+pub mod TripleOps
+pub mod TripleLaws

@@ -1,0 +1,5 @@
+pub mod Joins
+pub mod Acceptance
+pub mod Machine
+pub mod Walks
+pub mod Legal

@@ -1,0 +1,3 @@
+pub mod Shipped
+pub mod Expected
+pub mod Law
