@@ -6,8 +6,8 @@ ghost use Rattle.dt_solve.specs.Tries.{held_or_picks};
 
 use crate::proposer::Proposer;
 use dt_bits::NoMemory;
-use dt_box::{Cells, Watches};
-use dt_check::{Evaluation, pick_of, write_picks};
+use dt_box::Cells;
+use dt_check::{pick_of, write_picks};
 use dt_domain::Domain;
 use dt_terms::Problem;
 use std::alloc::Global;
@@ -46,7 +46,7 @@ fn hold_all<D: Domain>(problem: &Problem, cells: &Cells<D>, out: &mut [u128])
 #[derive(Drop)]
 pub(crate) struct Trial {
     pub(crate) numbers: Vec<u128>,
-    pub(crate) evaluation: Evaluation,
+    pub(crate) values: Vec<u128>,
 }
 
 impl Trial {
@@ -55,19 +55,17 @@ impl Trial {
     ghost use Rattle.dt_terms.specs.Values.{IsAssignment, solves};
     ghost use Rattle.dt_box.specs.Cells.{AreCells};
     ghost use Rattle.dt_box.specs.Stillness.{HasNoEmpty};
-    ghost use Rattle.dt_box.specs.Watching.{watches_of};
     ghost use Rattle.dt_check.specs.Trials.{HoldChoices};
-    ghost use Rattle.dt_check.specs.Evaluating.{IsEvaluated};
     ghost use Rattle.dt_solve.specs.Tries.{held_or_picks};
 
-    /// Made for the problem, with zeros. It goes over the terms.
+    /// Made for the problem, with zeros.
     pub(crate) fn new(alloc: Global, problem: &Problem) -> Result<Trial, NoMemory>
         ensures numbers { IfOk result (λ trial. length trial.numbers.items ≡ length (choices_of problem.now.terms)) }
-        ensures evaluated { IfOk result (λ trial. IsEvaluated problem.now.terms trial.evaluation) }
+        ensures values { IfOk result (λ trial. length trial.values.items ≡ length problem.now.terms) }
     {
         Ok(Trial {
             numbers: vec![in alloc; 0u128; problem.choice_count() as usize]?,
-            evaluation: Evaluation::new(alloc, problem)?,
+            values: vec![in alloc; 0u128; problem.terms.len()]?,
         })
     }
 
@@ -76,16 +74,14 @@ impl Trial {
     pub(crate) fn try_numbers<D: Domain, P: Proposer<D>>(
         &mut self,
         problem: &Problem,
-        watches: &Watches,
         cells: &Cells<D>,
         proposer: &mut P,
     ) -> bool
-        requires watches { watches.now ≡ watches_of problem.now.terms }
         requires cells { AreCells D.ops problem.now.terms cells.now }
         requires held { HasNoEmpty D.ops cells.now }
         requires numbers { length self.old.numbers.items ≡ length (choices_of problem.now.terms) }
-        requires evaluated { IsEvaluated problem.now.terms self.old.evaluation }
-        ensures evaluated { IsEvaluated problem.now.terms self.new.evaluation }
+        requires values { length self.old.values.items ≡ length problem.now.terms }
+        ensures values { length self.new.values.items ≡ length problem.now.terms }
         ensures solves { result ≡ solves problem.now self.new.numbers.items }
         ensures held { HoldChoices D.ops problem.now.terms cells.now self.new.numbers.items }
         ensures assignment { IsAssignment problem.now.terms self.new.numbers.items }
@@ -97,6 +93,6 @@ impl Trial {
         write_picks(problem, cells, numbers);
         proposer.propose(problem, cells, numbers);
         hold_all(problem, cells, numbers);
-        self.evaluation.eval(problem, watches, numbers)
+        problem.eval(numbers, self.values.as_mut_slice())
     }
 }

@@ -8,7 +8,6 @@ ghost use Rattle.dt_box.specs.Unknown.{IsUnknownBit};
 ghost use Rattle.dt_box.specs.Watching.{watches_of};
 ghost use Rattle.dt_log.specs.declared.line.Line.TheVariants.{Split, Close};
 ghost use Rattle.dt_check.specs.declared.pending.Pending.{Pending};
-ghost use Rattle.dt_check.specs.Evaluating.{IsEvaluated};
 ghost use Rattle.dt_check.specs.Waiting.{Stacked, CanBegin, AtSplits, IsNext, IsBegun};
 ghost use Rattle.dt_propagate.specs.Settling.{IsLogged, IsProgress, IsEnd};
 ghost use Rattle.dt_solve.specs.Searching.{IsStart, IsAt, IsTurned};
@@ -19,7 +18,7 @@ use crate::trial::Trial;
 use crate::writing::{write_rest, write_tries};
 use dt_bits::NoMemory;
 use dt_box::{Cells, Trail, Watches};
-use dt_check::{Pending, next_tree};
+use dt_check::Pending;
 use dt_domain::{Deciding, Domain};
 use dt_log::{Draft, Line};
 use dt_propagate::{Settled, settle_from, settle_with};
@@ -133,6 +132,32 @@ fn settle_start<D: Deciding>(
     }
 }
 
+// Goes back to the latest split whose right tree is still to come, and begins that tree; None where
+// there is none.
+fn next_tree<D: Domain>(
+    problem: &Problem,
+    cells: &mut Cells<D>,
+    trail: &mut Trail<D>,
+    pending: &mut Vec<Pending>,
+) -> Result<Option<Pending>, NoMemory>
+    requires cells { AreCells D.ops problem.now.terms cells.old }
+    requires within { All (λ change. change.0 < length cells.old) trail.old }
+    requires stacked { Stacked (length trail.old) (reverse pending.old.items) }
+    requires begin { AtSplits (CanBegin D.ops problem.now.terms) cells.old trail.old (reverse pending.old.items) }
+    ensures are { OnOk result (AreCells D.ops problem.now.terms cells.new) }
+    ensures next { IfOk result (λ begun. IsNext D.ops cells.old trail.old (reverse pending.old.items) cells.new trail.new (reverse pending.new.items) begun) }
+    ensures begun { IfOk result (λ begun. IfSome begun (λ q. IsBegun D.ops cells.old trail.old (reverse pending.old.items) cells.new trail.new (reverse pending.new.items) q)) }
+{
+    match pending.pop() {
+        None => Ok(None),
+        Some(split) => {
+            cells.undo(trail, split.length);
+            cells.set_bit_kept(problem, split.term, split.bit, true, trail)?;
+            Ok(Some(split))
+        }
+    }
+}
+
 // Closes the tree at the empty cell of a term, and begins the tree that waited first, if any did.
 fn close_tree<D: Domain>(
     problem: &Problem,
@@ -197,11 +222,11 @@ pub(crate) fn turn<D: Deciding, P: Proposer<D>>(
 ) -> Result<Turned, NoMemory>
     requires watches { watches.now ≡ watches_of problem.now.terms }
     requires numbers { length trial.old.numbers.items ≡ length (choices_of problem.now.terms) }
-    requires evaluated { IsEvaluated problem.now.terms trial.old.evaluation }
+    requires values { length trial.old.values.items ≡ length problem.now.terms }
     requires at { IsAt D.ops problem.now limit (P.aim proposer.old) search.old }
     ensures turned { IfOk result (λ turned. IsTurned D.ops problem.now limit (P.aim proposer.old) search.old turned search.new trial.new.numbers.items) }
     ensures numbers { OnOk result (length trial.new.numbers.items ≡ length (choices_of problem.now.terms)) }
-    ensures evaluated { OnOk result (IsEvaluated problem.now.terms trial.new.evaluation) }
+    ensures values { OnOk result (length trial.new.values.items ≡ length problem.now.terms) }
     ensures aim { OnOk result (P.aim proposer.new ≡ P.aim proposer.old) }
 {
     let _ = &problem.terms;
@@ -229,7 +254,7 @@ pub(crate) fn turn<D: Deciding, P: Proposer<D>>(
             }
         },
         Settled::Quiet => {
-            if trial.try_numbers(problem, watches, &search.cells, proposer) {
+            if trial.try_numbers(problem, &search.cells, proposer) {
                 return Ok(Turned::Found);
             }
             write_tries(problem, &search.cells, &trial.numbers, &mut search.draft)?;

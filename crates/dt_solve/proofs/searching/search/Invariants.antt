@@ -1,6 +1,5 @@
 use Rattle.std.proofs.Common.{◌≡◌, length}
 use Rattle.dt_terms.specs.Terms.{choices_of}
-use Rattle.dt_check.specs.Evaluating.{IsEvaluated}
 use Rattle.dt_solve.specs.Searching.{IsAt, left}
 use Rattle.dt_solve.proofs.searching.search.Given as goal
 
@@ -9,7 +8,7 @@ invariant-loop-search g l = record {
   at : IsAt g.D.Domain.ops l.problem l.limit (g.P.Proposer.aim l.fn.proposer) l.search;
   aim : g.P.Proposer.aim l.proposer ≡ g.P.Proposer.aim l.fn.proposer;
   numbers : length l.trial.numbers.items ≡ length (choices_of l.problem.terms);
-  evaluated : IsEvaluated l.problem.terms l.trial.evaluation;
+  values : length l.trial.values.items ≡ length l.problem.terms;
 }
 
 abbrev pub decreases-loop-search : goal.decreases-loop-search
