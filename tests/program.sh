@@ -24,6 +24,7 @@ cp "$top"/examples/first/requests first_requests
 cp "$top"/examples/t1/model t1
 for list in empty outside result image; do cp "$top/examples/t1/$list" "$list"; done
 for file in model outside mapped image; do cp "$top/examples/two_level/$file" "two_level_$file"; done
+for file in model list bare image; do cp "$top/examples/sv39/$file" "sv39_$file"; done
 sed 's/^ends done/ends fault 1/' result >fault_1
 passed=0
 failed=0
@@ -76,7 +77,8 @@ row 'too many words' 3 'refused words\n' solve t1 result 0 1 1
 row 'a split' 3 'refused words\n' solve t1 empty 1 1
 row 'a seed of 2^64' 3 'refused words\n' solve t1 empty 0 18446744073709551616
 row 'a seed with a sign' 3 'refused words\n' solve t1 empty 0 -1
-row 'a shipped model' 3 'refused words\n' solve @sv39 empty 0 1
+row 'no shipped model' 3 'refused words\n' solve @sv40 empty 0 1
+row 'a shipped model in place of a list' 3 'refused words\n' solve t1 @sv39 0 1
 row 'an empty name' 3 'refused words\n' solve '' empty 0 1
 
 sed 's/^end$/bits in x 0xff 0x2\nend/' result >bits
@@ -249,6 +251,62 @@ done
 cp "$claims"/never claims_never
 printf 'image 1\ntables 0x1000 0x6000\ncontext 0x1000\naccess 0 0x0 0x0\naccess 0 0x0 0x0\nend\n' >odd
 row 'demands that no walk meets are read' 1 'breaks 4\n' replay claims_model claims_never odd
+
+# Sv39, which the program brings along.
+# sv39 NAME LINES EDIT: the walk of the example's image after an edit, without its first line.
+sv39() {
+    sed "$3" sv39_image >edited
+    row "$1" 0 "access 0\n$2" walk @sv39 edited
+}
+r2='read r2 0x80000000 0x20000401\n'
+r1='read r1 0x80001000 0x20000801\n'
+# leaf NAME ENTRY END: the same with another entry of level 0.
+leaf() { sv39 "$1" "$r2${r1}read r0 0x80002008 $2\n$3\n" "s/0x240000c7/$2/"; }
+leaf 'a page of 4 KiB' 0x240000c7 'done d12 0x90000abc 12'
+leaf 'an entry that was not accessed' 0x24000087 'fault pf13 13'
+leaf 'an entry that is not dirty' 0x24000047 'done d12 0x90000abc 12'
+leaf 'an entry for U-mode' 0x240000d7 'fault pf13 13'
+leaf 'an entry that is executable alone' 0x240000c9 'fault pf13 13'
+leaf 'an entry that is writable and not readable' 0x240000c5 'fault pf13 13'
+leaf 'a pointer at level 0' 0x24000001 'fault pf13 13'
+leaf 'a reserved bit' 0x400000240000c7 'fault pf13 13'
+leaf 'a page of 64 KiB' 0x80000000240020c7 'done d16 0x90001abc 16'
+leaf 'N for another size' 0x80000000240000c7 'fault pf13 13'
+leaf 'a memory type' 0x20000000240000c7 'done d12 0x90000abc 12'
+leaf 'the memory type that is reserved' 0x60000000240000c7 'fault pf13 13'
+sv39 'a misaligned superpage' "${r2}read r1 0x80001000 0x240004c7\nfault pf13 13\n" 's/0x20000801/0x240004c7/'
+sv39 'a superpage of 2 MiB' "${r2}read r1 0x80001000 0x240000c7\ndone d21 0x90001abc 21\n" 's/0x20000801/0x240000c7/'
+sv39 'a superpage of 1 GiB' 'read r2 0x80000000 0x300000c7\ndone d30 0xc0001abc 30\n' 's/0x20000401/0x300000c7/'
+sv39 'a pointer that was accessed' 'read r2 0x80000000 0x20000441\nfault pf13 13\n' 's/0x20000401/0x20000441/'
+sv39 'a table outside table memory' 'read r2 0x80000000 0x20001001\nfault af5 5\n' 's/0x20000401/0x20001001/'
+sv39 'an address that is not sign-extended' 'fault pf13 13\n' 's/0x1abc/0x8000000000/'
+sv39 'a store to a page that is not dirty' "$r2${r1}read r0 0x80002008 0x24000047\nfault pf15 15\n" 's/0x240000c7/0x24000047/; s/0x1abc 0x1/0x1abc 0x2/'
+sv39 'a fetch' "$r2${r1}read r0 0x80002008 0x240000c7\nfault pf12 12\n" 's/0x1abc 0x1/0x1abc 0x0/'
+sv39 'a load with MXR' "$r2${r1}read r0 0x80002008 0x240000c9\ndone d12 0x90000abc 12\n" 's/0x240000c7/0x240000c9/; s/80000 0x0 0x0/80000 0x0 0x1/'
+sv39 'a load with SUM' "$r2${r1}read r0 0x80002008 0x240000d7\ndone d12 0x90000abc 12\n" 's/0x240000c7/0x240000d7/; s/80000 0x0 0x0/80000 0x1 0x0/'
+sv39 'Bare' 'done dbare 0x1abc 12\n' 's/0x8000000000080000/0x0/'
+sv39 'Bare and an address of 57 bits' 'fault af5 5\n' 's/0x8000000000080000/0x0/; s/0x1abc/0x100000000000000/'
+sed 's/^access.*/&\naccess 0 0x8000000000 0x2 0x1/' sv39_image >edited
+row 'walks in order' 0 "access 0\n$r2${r1}read r0 0x80002008 0x240000c7\ndone d12 0x90000abc 12\naccess 1\nfault pf15 15\n" walk @sv39 edited
+row 'the model of Sv39' 0 "$(cat sv39_model)\n" model @sv39
+row 'an image for Sv39, judged' 0 'satisfies\n' replay @sv39 sv39_list sv39_image
+row 'an image for Sv39, judged by the printed model' 0 'satisfies\n' replay sv39_model sv39_list sv39_image
+bare='image 1\ntables 0x80000000 0x80003000\ncontext 0x0 0x0 0x0\naccess 0 0x0 0x0 0x0\nend\n'
+row 'a list for Sv39, solved' 0 "$bare" solve @sv39 sv39_bare 0 1
+row 'a list for Sv39, solved with the printed model' 0 "$bare" solve sv39_model sv39_bare 0 1
+sed 's/0x8000000000080000/0x9000000000080000/' sv39_image >edited
+row 'a setting that is not legal' 1 'breaks 1\n' replay @sv39 sv39_list edited
+row 'a walk without an image' 3 'refused words\n' walk @sv39
+row 'a walk of a model that is not shipped' 3 'refused words\n' walk @sv40 sv39_image
+row "a walk of a file's model" 3 'refused words\n' walk sv39_model sv39_image
+row 'a walk of too many words' 3 'refused words\n' walk @sv39 sv39_image sv39_image
+row 'a model that is not shipped' 3 'refused words\n' model @sv40
+row 'a model of a file' 3 'refused words\n' model sv39_model
+row 'a model with a further word' 3 'refused words\n' model @sv39 sv39_image
+row 'a walk of an absent image' 7 'read fault image\n' walk @sv39 none
+row 'a walk of a list' 6 'refused image line 1 form\n' walk @sv39 sv39_list
+row 'a walk of an image of another model' 6 'refused image line 3 shape\n' walk @sv39 image
+row 'an absent list for Sv39' 7 'read fault requests\n' solve @sv39 none 0 1
 
 row 'an absent image' 7 'read fault image\n' replay t1 result none
 row 'a folder in place of an image' 7 'read fault image\n' replay t1 result folder

@@ -1,10 +1,8 @@
 //! Measures what a problem of many terms and its cells cost. With an argument it builds a problem
 //! of 4,000,000 terms, its root cells over pairs of known bits and a range, and a copy of them,
 //! takes every step forward and evaluates the problem once, and prints a line for each on standard
-//! error: how many terms there were and how many milliseconds it took. Where the argument is `watched`,
-//! it makes in place of the copy the lists of the terms' users, takes steps until a tenth of the cells
-//! have changed, keeping them in a trail, and goes back. Without an argument it does both for a small
-//! problem and prints no figure. With two, a file and a number, it reads a trace
+//! error: how many terms there were and how many milliseconds it took. Without one it does the same
+//! for a small problem and prints no figure. With two, a file and a number, it reads a trace
 //! (`src/trace.rt`), does its moves that many times, each time on root cells, and prints how many
 //! changed a cell in which way and a digest of the last cells; `tests/steps.py` compares the time
 //! and the cells with those of a C program.
@@ -24,9 +22,9 @@ mod work;
 use crate::moves::{Counts, Move, digest, replay};
 use crate::stop::Stop;
 use crate::trace::{moves_of, problem_of};
-use crate::work::{built, evaluated, kept, swept};
+use crate::work::{built, evaluated, swept};
 use dt_bits::Width;
-use dt_box::{Cells, Trail, Watches};
+use dt_box::Cells;
 use dt_pair::Pair;
 use dt_terms::{Problem, Term};
 use std::time::Instant;
@@ -79,27 +77,6 @@ fn measure(rt: &HostRuntime, shown: bool, count: u32) -> Result<(), Stop> {
     Ok(())
 }
 
-/// Keeps changes of a tenth of the cells of a problem of this many terms, beside its users, and undoes
-/// them.
-fn measure_watched(rt: &HostRuntime, shown: bool, count: u32) -> Result<(), Stop> {
-    let start = Instant::now(rt)?;
-    let problem = built(rt.alloc(), count)?;
-    tell(rt, shown, "built", count, &start)?;
-    let start = Instant::now(rt)?;
-    let mut cells: Cells<Pair> = Cells::root(rt.alloc(), &problem)?;
-    tell(rt, shown, "root cells", count, &start)?;
-    let start = Instant::now(rt)?;
-    let _watches = Watches::new(rt.alloc(), &problem)?;
-    tell(rt, shown, "listed users", count, &start)?;
-    let start = Instant::now(rt)?;
-    let mut trail: Trail<Pair> = Trail::new(rt.alloc())?;
-    kept(&problem, &mut cells, &mut trail, count as u64 / 10)?;
-    tell(rt, shown, "kept changes", trail.len() as u32, &start)?;
-    let start = Instant::now(rt)?;
-    cells.undo(&mut trail, 0);
-    tell(rt, shown, "went back, kept", trail.len() as u32, &start)
-}
-
 /// Does the moves so many times, each time on root cells, and prints what came of them.
 fn repeat(rt: &HostRuntime, problem: &Problem, moves: &[Move], rounds: u32) -> Result<(), Stop>
     requires { All (IsMove problem.now.terms) moves.now }
@@ -137,16 +114,9 @@ fn print(rt: &HostRuntime, counts: Counts, digest: u64) -> Result<(), Stop> {
 fn main(rt: HostRuntime) -> Result<(), Stop> {
     let mut words = env::args(&rt)?.skip(1);
     match words.next() {
-        None => {
-            measure(&rt, false, SMALL)?;
-            measure_watched(&rt, false, SMALL)?
-        }
+        None => measure(&rt, false, SMALL)?,
         Some(path) => match words.next() {
-            None => if path.as_str() == "watched" {
-                measure_watched(&rt, true, LARGE)?
-            } else {
-                measure(&rt, true, LARGE)?
-            },
+            None => measure(&rt, true, LARGE)?,
             Some(rounds) => {
                 let rounds = rounds.as_str().parse::<u32>().unwrap_or(1);
                 return measure_trace(&rt, path.as_str(), rounds);

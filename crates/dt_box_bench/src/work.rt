@@ -1,10 +1,9 @@
-ghost use Rattle.std.specs.Prelude.{◌<◌, All, length, OnOk};
 ghost use Rattle.dt_pair.specs.Ops.{pair_ops};
 ghost use Rattle.dt_box.specs.Cells.{AreCells};
 
 use crate::stop::Stop;
 use dt_bits::{Bv, Op, Width};
-use dt_box::{Cells, Changed, Step, Trail};
+use dt_box::{Cells, Changed, Step};
 use dt_pair::Pair;
 use dt_terms::Problem;
 use std::alloc::Global;
@@ -46,30 +45,6 @@ pub fn swept(problem: &Problem, cells: &mut Cells<Pair>) -> u32
         }
     }
     known
-}
-
-/// Takes steps forward and keeps what they change, until the trail has this many pairs or no step is left.
-pub fn kept(
-    problem: &Problem,
-    cells: &mut Cells<Pair>,
-    trail: &mut Trail<Pair>,
-    most: u64,
-) -> Result<(), Stop>
-    requires cells { AreCells pair_ops problem.now.terms cells.old }
-    requires within { All (λ change. change.0 < length cells.old) trail.old }
-    ensures cells { OnOk result (AreCells pair_ops problem.now.terms cells.new) }
-    ensures within { OnOk result (All (λ change. change.0 < length cells.new) trail.new) }
-{
-    for term in 0..problem.terms.len() as u32 {
-        if trail.len() >= most {
-            return Ok(());
-        }
-        let step = Step::Forward { term };
-        if step.is_of(problem) {
-            cells.apply_kept(problem, step, trail)?;
-        }
-    }
-    Ok(())
 }
 
 /// Whether 0 for each choice solves the problem.

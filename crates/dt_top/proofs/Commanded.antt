@@ -1,7 +1,7 @@
 -- What the stages of a command come to.
-use Rattle.std.proofs.Common.{◌≡◌, ℕ, ◌+◌, inl, inr, false, not, List, [], ◌∷◌, Option, Some, None, Ok, Err, refl, sym, ap, subst, ◌∙◌}
+use Rattle.std.proofs.Common.{◌≡◌, ℕ, ◌+◌, inl, inr, false, not, List, [], ◌∷◌, ◌++◌, Option, Some, None, Ok, Err, refl, sym, ap, subst, ◌∙◌, append_assoc}
 use Rattle.std.specs.Prelude.{position, codes}
-use Rattle.dt_edge.specs.Told.{Told, Has}
+use Rattle.dt_edge.specs.Told.{Told, Has, Asks}
 use Rattle.dt_model.specs.ModelData.{ModelData}
 use Rattle.dt_modeltext.specs.declared.fault.ModelFault.{ModelFault}
 use Rattle.dt_modeltext.specs.declared.fault.ModelFault.TheVariants as model
@@ -21,21 +21,27 @@ use Rattle.std.specs.Bool.{OnFalse}
 use Rattle.dt_satisfy.specs.Claims.{claims}
 use Rattle.dt_satisfy.specs.Satisfies.{Matches, verdict_of}
 use Rattle.dt_satisfy.specs.declared.verdict.Judged.TheVariants as judged
-use Rattle.dt_top.specs.Course.{FileRead, Outcome, OnFile, Never}
+use Rattle.dt_top.specs.Course.{FileRead, Outcome, Answered, OnFile, Never}
 use Rattle.dt_modeltext.specs.Fault.{line_of as model_line, word_of as model_word}
 use Rattle.dt_image.specs.Fault.{line_of as image_line, word_of as image_word}
 use Rattle.dt_top.specs.Lines.{breaks_line, bad_line}
 use Rattle.dt_top.specs.Replies.{bytes_of, IsWant, IsRefusedLine}
-use Rattle.dt_top.specs.Seen.{seen, StaysShelf, Took, TookBoth}
-use Rattle.dt_top.specs.Stages.{IsRefusedModel, OnModel, IsRequests, IsRefusedList, OnRequests, IsMatching, OnImage, OnModelAndList}
+use Rattle.dt_top.specs.Seen.{seen, StaysShelf, Took, TookModel, TookBoth, names_of}
+use Rattle.dt_top.specs.Stages.{IsRefusedModel, OnModel, IsRequests, IsRefusedList, OnRequests, IsBadImage, OnModelImage, IsMatching, OnImage}
+use Rattle.dt_top.specs.Models.{ModelAsked, shipped, of_file, shipped_data, model_files, OnModelWord, IsModelOf, OnModelAndList}
+use Rattle.dt_top.specs.declared.models.Shipped.{Shipped}
 use Rattle.dt_top.specs.Table.{Ends, in_call, no_reads, Replies}
 use Rattle.dt_top.specs.commands.Replay.{Judging}
+use Rattle.dt_top.specs.commands.Walk.{WalkingBytes}
+use Rattle.dt_top.specs.commands.Model.{Printing}
+use Rattle.dt_modeltext.specs.Print.{printed}
+use Rattle.dt_walktext.specs.Printed.{walks_text}
 use Rattle.dt_top.specs.declared.file.File.{File}
 use Rattle.dt_top.specs.declared.file.File.TheVariants as file
 use Rattle.dt_top.specs.declared.reply.Reply.{Reply}
 use Rattle.dt_top.specs.declared.status.Status.{Status}
 use Rattle.dt_top.specs.declared.status.Status.TheVariants as status
-use Rattle.dt_top.proofs.Ended.{ends_on, ends_as, ends_more, on_file, ends_after, ends_still, asks_more}
+use Rattle.dt_top.proofs.Ended.{ends_on, ends_as, ends_more, on_file, ends_after, ends_still, asks_none, asks_more, has_more, names_more}
 
 -- ---- calls over bytes
 
@@ -84,12 +90,22 @@ image_known R (image.OutOfRange m) n e h = h
 image_known R (image.Order m) n e h = h
 
 -- an image's text that is refused
+bad_image : (d : ModelData) (bytes : List ℕ) (fault : ImageFault) (n : ℕ) → OnFalse (image_memory fault) (reading d bytes ≡ Err fault) → image_line fault ≡ Some n → IsBadImage d bytes (bad_line (codes "image") n (image_word fault))
+bad_image d bytes fault n r e = record { fault = fault; number = n; refused = image_known (reading d bytes ≡ Err fault) fault n e r; place = e; line = refl }
+
 pub replies_image : (d : ModelData) (list : Requests) (bytes : List ℕ) (fault : ImageFault) (reply : Reply) → OnFalse (image_memory fault) (reading d bytes ≡ Err fault)
     → IsRefusedLine file.Image (image_line fault) (image_word fault) reply → Replies (OnImage d list bytes (λ i. Never)) reply.status (bytes_of reply.text)
 replies_image d list bytes fault reply r (inl w) = replies_want (OnImage d list bytes (λ i. Never)) reply w
 replies_image d list bytes fault reply r (inr h) =
     ends_as no_reads (OnImage d list bytes (λ i. Never)) status.InputRefused reply.status (bad_line (codes "image") h.0 (image_word fault)) (bytes_of reply.text) h.2 h.3
-    ([], inl (bad_line (codes "image") h.0 (image_word fault), inl (fault, h.0, image_known (reading d bytes ≡ Err fault) fault h.0 h.1 r, h.1, refl), refl), refl)
+    ([], inl (bad_line (codes "image") h.0 (image_word fault), inl (bad_image d bytes fault h.0 r h.1), refl), refl)
+
+pub replies_model_image : (d : ModelData) (bytes : List ℕ) (fault : ImageFault) (reply : Reply) → OnFalse (image_memory fault) (reading d bytes ≡ Err fault)
+    → IsRefusedLine file.Image (image_line fault) (image_word fault) reply → Replies (OnModelImage d bytes (λ i. Never)) reply.status (bytes_of reply.text)
+replies_model_image d bytes fault reply r (inl w) = replies_want (OnModelImage d bytes (λ i. Never)) reply w
+replies_model_image d bytes fault reply r (inr h) =
+    ends_as no_reads (OnModelImage d bytes (λ i. Never)) status.InputRefused reply.status (bad_line (codes "image") h.0 (image_word fault)) (bytes_of reply.text) h.2 h.3
+    ([], inl (bad_line (codes "image") h.0 (image_word fault), bad_image d bytes fault h.0 r h.1, refl), refl)
 
 -- an image that doesn't match
 pub replies_mismatch : (d : ModelData) (list : Requests) (bytes : List ℕ) (i : Image) (reply : Reply) → reading d bytes ≡ Ok i → (Matches list i → ⊥)
@@ -133,14 +149,52 @@ pub never_image : (d : ModelData) (list : Requests) (bytes : List ℕ) (next : I
 never_image d list bytes next files outcome (inl h) = inl h
 never_image d list bytes next files outcome (inr h) = absurd h.2
 
-pub never_both : (m r : List ℕ) (next : ModelData → Requests → List FileRead → Outcome → Type 0) (files : List FileRead) (outcome : Outcome)
+pub never_model_image : (d : ModelData) (bytes : List ℕ) (next : Image → List FileRead → Outcome → Type 0) (files : List FileRead) (outcome : Outcome)
+    → OnModelImage d bytes (λ i. Never) files outcome → OnModelImage d bytes next files outcome
+never_model_image d bytes next files outcome (inl h) = inl h
+never_model_image d bytes next files outcome (inr h) = absurd h.2
+
+on_model : (bytes : List ℕ) (next then : ModelData → List FileRead → Outcome → Type 0)
+    → ((d : ModelData) (files : List FileRead) (outcome : Outcome) → next d files outcome → then d files outcome)
+    → (files : List FileRead) (outcome : Outcome) → OnModel bytes next files outcome → OnModel bytes then files outcome
+on_model bytes next then along files outcome (inl h) = inl h
+on_model bytes next then along files outcome (inr h) = inr (h.0, h.1, along h.0 files outcome h.2)
+
+-- the course of a word for a model, by how it goes on
+pub on_word : (m : ModelAsked) (next then : ModelData → List FileRead → Outcome → Type 0)
+    → ((d : ModelData) (files : List FileRead) (outcome : Outcome) → next d files outcome → then d files outcome)
+    → (files : List FileRead) (outcome : Outcome) → OnModelWord m next files outcome → OnModelWord m then files outcome
+on_word (shipped s) next then along files outcome h = along (shipped_data s) files outcome h
+on_word (of_file name) next then along files outcome h = on_file file.Model name (λ bytes. OnModel bytes next) (λ bytes. OnModel bytes then) (λ bytes. on_model bytes next then along) files outcome h
+
+pub never_word : (m : ModelAsked) (next : ModelData → List FileRead → Outcome → Type 0) (files : List FileRead) (outcome : Outcome)
+    → OnModelWord m (λ d. Never) files outcome → OnModelWord m next files outcome
+never_word m next files outcome h = on_word m (λ d. Never) next (λ d f o n. absurd n) files outcome h
+
+pub never_both : (m : ModelAsked) (r : List ℕ) (next : ModelData → Requests → List FileRead → Outcome → Type 0) (files : List FileRead) (outcome : Outcome)
     → OnModelAndList m r (λ d list. Never) files outcome → OnModelAndList m r next files outcome
 never_both m r next files outcome h =
-    on_file file.Model m (λ bytes. OnModel bytes (λ d. OnFile file.Requests r (λ text. OnRequests d text (λ list. Never)))) (λ bytes. OnModel bytes (λ d. OnFile file.Requests r (λ text. OnRequests d text (next d))))
-    (λ bytes more out k. elim k [
-      | inl g ↦ inl g
-      | inr g ↦ inr (g.0, g.1, on_file file.Requests r (λ text. OnRequests g.0 text (λ list. Never)) (λ text. OnRequests g.0 text (next g.0)) (λ text. never_list g.0 text (next g.0)) more out g.2)
-    ]) files outcome h
+    on_word m (λ d. OnFile file.Requests r (λ text. OnRequests d text (λ list. Never))) (λ d. OnFile file.Requests r (λ text. OnRequests d text (next d)))
+    (λ d more out k. on_file file.Requests r (λ text. OnRequests d text (λ list. Never)) (λ text. OnRequests d text (next d)) (λ text. never_list d text (next d)) more out k) files outcome h
+
+-- ---- the files of a model
+
+-- after these files the command goes on
+pub found_on : (m : ModelAsked) (given : List FileRead) (d : ModelData) (next : ModelData → List FileRead → Outcome → Type 0) → IsModelOf m given d
+    → (files : List FileRead) (outcome : Outcome) → next d files outcome → OnModelWord m next (given ++ files) outcome
+found_on (shipped s) [] d next is files outcome h = subst (λ (e : ModelData). next e files outcome) is h
+found_on (shipped s) (f ∷ more) d next is files outcome h = absurd is
+found_on (of_file name) [] d next is files outcome h = absurd is
+found_on (of_file name) (f ∷ []) d next is files outcome h = (is.0, is.1, inr (d, is.2, h))
+found_on (of_file name) (f ∷ g ∷ more) d next is files outcome h = absurd is
+
+-- they have these names
+pub found_names : (m : ModelAsked) (given : List FileRead) (d : ModelData) → IsModelOf m given d → names_of given ≡ model_files m
+found_names (shipped s) [] d is = refl
+found_names (shipped s) (f ∷ more) d is = absurd is
+found_names (of_file name) [] d is = absurd is
+found_names (of_file name) (f ∷ []) d is = ap (λ (n : List ℕ). n ∷ []) is.0
+found_names (of_file name) (f ∷ g ∷ more) d is = absurd is
 
 -- ---- parts of a call
 
@@ -167,54 +221,78 @@ module _ {S : Type 0} (told : S → Told) (faults taken : S → ℕ) (asked : S 
       → Ends (in_call (seen told faults taken asked old new) (name ∷ [])) (OnFile kind name next) came text
   ends_file old new kind name next came text h = ends_on _ (OnFile kind name (λ bytes. Never)) (OnFile kind name next) (never_file kind name next) came text h
 
-  -- a model's file that gave no model ends the command
-  pub ends_model : (old new : S) (m r : List ℕ) (came : Status) (text : List ℕ)
-      → Ends (in_call (seen told faults taken asked old new) (m ∷ [])) (OnFile file.Model m (λ bytes. OnModel bytes (λ d. Never))) came text
-      → Ends (in_call (seen told faults taken asked old new) (m ∷ r ∷ [])) (OnModelAndList m r (λ d list. Never)) came text
+  -- memory ran out before a file was read
+  pub ends_want : (old : S) (names : List (List ℕ)) (course : List FileRead → Outcome → Type 0) (reply : Reply) → IsWant reply
+      → Ends (in_call (seen told faults taken asked old old) names) course reply.status (bytes_of reply.text)
+  ends_want old names course reply w = ends_still told faults taken asked steady old names course reply.status (bytes_of reply.text) (replies_want course reply w)
+
+  -- a shipped model, for which no file is read
+  pub took_shipped : (old : S) (s : Shipped) (d : ModelData) → d ≡ shipped_data s → TookModel (seen told faults taken asked old old) (shipped s) d
+  took_shipped old s d is = record { given = []; has = tt; asks = asks_none (asked old); quiet = refl; found = is }
+
+  -- the model of a file
+  pub took_file : (old new : S) (name : List ℕ) (d : ModelData) → (bytes : List ℕ) × Took (seen told faults taken asked old new) file.Model name bytes × IsModelText bytes d
+      → TookModel (seen told faults taken asked old new) (of_file name) d
+  took_file old new name d h = let t = h.1 in record { given = record { name = name; bytes = h.0 } ∷ []; has = (t.has, tt); asks = t.asks; quiet = t.quiet; found = (refl, t.within, h.2) }
+
+  -- where no model was found the command ends
+  pub ends_model : (old new : S) (m : ModelAsked) (r : List ℕ) (came : Status) (text : List ℕ)
+      → Ends (in_call (seen told faults taken asked old new) (model_files m)) (OnModelWord m (λ d. Never)) came text
+      → Ends (in_call (seen told faults taken asked old new) (model_files m ++ r ∷ [])) (OnModelAndList m r (λ d list. Never)) came text
   ends_model old new m r came text h =
-      ends_more (seen told faults taken asked old new) (m ∷ []) (r ∷ []) (OnModelAndList m r (λ d list. Never)) came text
-      (ends_on _ (OnFile file.Model m (λ bytes. OnModel bytes (λ d. Never))) (OnModelAndList m r (λ d list. Never))
-      (on_file file.Model m (λ bytes. OnModel bytes (λ d. Never)) (λ bytes. OnModel bytes (λ d. OnFile file.Requests r (λ text. OnRequests d text (λ list. Never))))
-      (λ bytes. never_model bytes (λ d. OnFile file.Requests r (λ text. OnRequests d text (λ list. Never))))) came text h)
+      ends_more (seen told faults taken asked old new) (model_files m) (r ∷ []) (OnModelAndList m r (λ d list. Never)) came text
+      (ends_on _ (OnModelWord m (λ d. Never)) (OnModelAndList m r (λ d list. Never)) (never_word m (λ d. OnFile file.Requests r (λ text. OnRequests d text (λ list. Never)))) came text h)
 
-  -- and so does a list's file that gave no list, after a model
-  pub ends_list : (old mid new : S) → StaysShelf told faults taken steady old mid → (m r bytes : List ℕ) (d : ModelData) → Took (seen told faults taken asked old mid) file.Model m bytes → IsModelText bytes d
+  -- after a model was found, the rest of a call decides
+  ends_found : (old mid new : S) → StaysShelf told faults taken steady old mid → (m : ModelAsked) (d : ModelData) → TookModel (seen told faults taken asked old mid) m d
+      → (rest : List (List ℕ)) (next : ModelData → List FileRead → Outcome → Type 0) (came : Status) (text : List ℕ)
+      → Ends (in_call (seen told faults taken asked mid new) rest) (next d) came text
+      → Ends (in_call (seen told faults taken asked old new) (model_files m ++ rest)) (OnModelWord m next) came text
+  ends_found old mid new stays m d took rest next came text h =
+      subst (λ (names : List (List ℕ)). Ends (in_call (seen told faults taken asked old new) (names ++ rest)) (OnModelWord m next) came text) (found_names m took.given d took.found)
+      (ends_after told faults taken asked steady old mid new stays took.given took.has took.asks took.quiet rest (next d) (OnModelWord m next) (found_on m took.given d next took.found) came text h)
+
+  -- a list's file that gave no list ends the command, after a model
+  pub ends_list : (old mid new : S) → StaysShelf told faults taken steady old mid → (m : ModelAsked) (r : List ℕ) (d : ModelData) → TookModel (seen told faults taken asked old mid) m d
       → (came : Status) (text : List ℕ) → Ends (in_call (seen told faults taken asked mid new) (r ∷ [])) (OnFile file.Requests r (λ b. OnRequests d b (λ list. Never))) came text
-      → Ends (in_call (seen told faults taken asked old new) (m ∷ r ∷ [])) (OnModelAndList m r (λ d list. Never)) came text
-  ends_list old mid new stays m r bytes d took is came text h =
-      ends_read old mid new stays file.Model m bytes took (r ∷ []) (λ b. OnModel b (λ d. OnFile file.Requests r (λ text. OnRequests d text (λ list. Never)))) came text
-      (ends_on _ (OnFile file.Requests r (λ b. OnRequests d b (λ list. Never))) (OnModel bytes (λ d. OnFile file.Requests r (λ text. OnRequests d text (λ list. Never))))
-      (λ files outcome c. inr (d, is, c)) came text h)
+      → Ends (in_call (seen told faults taken asked old new) (model_files m ++ r ∷ [])) (OnModelAndList m r (λ d list. Never)) came text
+  ends_list old mid new stays m r d took came text h = ends_found old mid new stays m d took (r ∷ []) (λ d. OnFile file.Requests r (λ text. OnRequests d text (λ list. Never))) came text h
 
-  -- both files were read, and the rest of the command decides
-  pub ends_both : (old mid new : S) → StaysShelf told faults taken steady old mid → (m r : List ℕ) (d : ModelData) (list : Requests) → TookBoth (seen told faults taken asked old mid) m r d list
+  -- both were found, and the rest of the command decides
+  pub ends_both : (old mid new : S) → StaysShelf told faults taken steady old mid → (m : ModelAsked) (r : List ℕ) (d : ModelData) (list : Requests) → TookBoth (seen told faults taken asked old mid) m r d list
       → (rest : List (List ℕ)) (next : ModelData → Requests → List FileRead → Outcome → Type 0) (came : Status) (text : List ℕ)
       → Ends (in_call (seen told faults taken asked mid new) rest) (next d list) came text
-      → Ends (in_call (seen told faults taken asked old new) (m ∷ r ∷ rest)) (OnModelAndList m r next) came text
+      → Ends (in_call (seen told faults taken asked old new) (model_files m ++ r ∷ rest)) (OnModelAndList m r next) came text
   ends_both old mid new stays m r d list took rest next came text h =
-      ends_after told faults taken asked steady old mid new stays (record { name = m; bytes = took.bytes } ∷ record { name = r; bytes = took.text } ∷ []) took.has took.asks took.quiet
-      rest (next d list) (OnModelAndList m r next) (λ files outcome c. (refl, took.within, inr (d, took.accepted, (refl, took.within_text, inr (list, took.spelled, c))))) came text h
+      let listed : FileRead = record { name = r; bytes = took.text } in
+      let names : names_of (took.given ++ listed ∷ []) ≡ names_of took.given ++ r ∷ [] = names_more took.given (listed ∷ []) in
+      subst (λ (n : List (List ℕ)). Ends (in_call (seen told faults taken asked old new) n) (OnModelAndList m r next) came text)
+      (ap (λ (n : List (List ℕ)). n ++ rest) names ∙ append_assoc (names_of took.given) (r ∷ []) rest ∙ ap (λ (n : List (List ℕ)). n ++ r ∷ rest) (found_names m took.given d took.found))
+      (ends_after told faults taken asked steady old mid new stays (took.given ++ listed ∷ []) took.has (subst (λ (n : List (List ℕ)). Asks (asked old) (asked mid) n) (sym names) took.asks) took.quiet
+      rest (next d list) (OnModelAndList m r next)
+      (λ files outcome c. subst (λ (fs : List FileRead). OnModelAndList m r next fs outcome) (sym (append_assoc took.given (listed ∷ []) files))
+      (found_on m took.given d (λ d. OnFile file.Requests r (λ text. OnRequests d text (next d))) took.found (listed ∷ files) outcome (refl, took.within, inr (list, took.spelled, c)))) came text h)
 
   -- a command whose model and list weren't both found
-  pub ends_neither : (old new : S) (m r : List ℕ) (rest : List (List ℕ)) (next : ModelData → Requests → List FileRead → Outcome → Type 0) (came : Status) (text : List ℕ)
-      → Ends (in_call (seen told faults taken asked old new) (m ∷ r ∷ [])) (OnModelAndList m r (λ d list. Never)) came text
-      → Ends (in_call (seen told faults taken asked old new) (m ∷ r ∷ rest)) (OnModelAndList m r next) came text
+  pub ends_neither : (old new : S) (m : ModelAsked) (r : List ℕ) (rest : List (List ℕ)) (next : ModelData → Requests → List FileRead → Outcome → Type 0) (came : Status) (text : List ℕ)
+      → Ends (in_call (seen told faults taken asked old new) (model_files m ++ r ∷ [])) (OnModelAndList m r (λ d list. Never)) came text
+      → Ends (in_call (seen told faults taken asked old new) (model_files m ++ r ∷ rest)) (OnModelAndList m r next) came text
   ends_neither old new m r rest next came text h =
-      ends_more (seen told faults taken asked old new) (m ∷ r ∷ []) rest (OnModelAndList m r next) came text
-      (ends_on _ (OnModelAndList m r (λ d list. Never)) (OnModelAndList m r next) (never_both m r next) came text h)
+      subst (λ (n : List (List ℕ)). Ends (in_call (seen told faults taken asked old new) n) (OnModelAndList m r next) came text) (append_assoc (model_files m) (r ∷ []) rest)
+      (ends_more (seen told faults taken asked old new) (model_files m ++ r ∷ []) rest (OnModelAndList m r next) came text
+      (ends_on _ (OnModelAndList m r (λ d list. Never)) (OnModelAndList m r next) (never_both m r next) came text h))
 
-  pub took_both : (old mid new : S) → StaysShelf told faults taken steady old mid → (m r bytes text : List ℕ) (d : ModelData) (list : Requests)
-      → Took (seen told faults taken asked old mid) file.Model m bytes → IsModelText bytes d
+  pub took_both : (old mid new : S) → StaysShelf told faults taken steady old mid → (m : ModelAsked) (r text : List ℕ) (d : ModelData) (list : Requests)
+      → TookModel (seen told faults taken asked old mid) m d
       → Took (seen told faults taken asked mid new) file.Requests r text → IsRequests d text list → TookBoth (seen told faults taken asked old new) m r d list
-  took_both old mid new stays m r bytes text d list one is two spelled = record {
-    bytes = bytes;
+  took_both old mid new stays m r text d list one two spelled = record {
+    given = one.given;
     text = text;
-    has = (one.has, (subst (λ t. Has t r text) stays.told two.has, tt));
-    within = one.within;
-    within_text = two.within;
-    asks = asks_more (asked old) (asked mid) (asked new) (m ∷ []) (r ∷ []) one.asks two.asks;
+    has = has_more (told old) (told mid) one.given (record { name = r; bytes = text } ∷ []) stays.told one.has (two.has, tt);
+    within = two.within;
+    asks = asks_more (asked old) (asked mid) (asked new) (names_of one.given) (r ∷ []) one.asks two.asks;
     quiet = two.quiet ∙ one.quiet;
-    accepted = is;
+    found = one.found;
     spelled = spelled;
   }
 
@@ -222,3 +300,16 @@ module _ {S : Type 0} (told : S → Told) (faults taken : S → ℕ) (asked : S 
 pub replies_matching : (d : ModelData) (list : Requests) (bytes : List ℕ) (i : Image) → IsMatching d list bytes i → (came : Status) (text : List ℕ)
     → Replies (Judging d list i) came text → Replies (OnImage d list bytes (Judging d list)) came text
 replies_matching d list bytes i m came text h = ends_on no_reads (Judging d list i) (OnImage d list bytes (Judging d list)) (λ files outcome k. inr (i, m, k)) came text h
+
+-- the walks of an image
+pub replies_walks : (d : ModelData) (bytes : List ℕ) (i : Image) (reply : Reply) (text : List ℕ) → reading d bytes ≡ Ok i → text ≡ walks_text d i
+    → reply.status ≡ status.Good → bytes_of reply.text ≡ text → Replies (WalkingBytes d bytes) reply.status (bytes_of reply.text)
+replies_walks d bytes i reply text r e s t = ends_as no_reads (WalkingBytes d bytes) status.Good reply.status (walks_text d i) (bytes_of reply.text) s (t ∙ e) ([], inr (i, r, refl), refl)
+
+pub replies_no_walks : (d : ModelData) (bytes : List ℕ) (came : Status) (text : List ℕ) → Replies (OnModelImage d bytes (λ i. Never)) came text → Replies (WalkingBytes d bytes) came text
+replies_no_walks d bytes came text h = ends_on no_reads (OnModelImage d bytes (λ i. Never)) (WalkingBytes d bytes) (never_model_image d bytes (λ i. Answered status.Good (walks_text d i))) came text h
+
+-- the text of a model
+pub replies_printed : (m : Shipped) (reply : Reply) (text : List ℕ) → text ≡ printed (shipped_data m) → reply.status ≡ status.Good → bytes_of reply.text ≡ text
+    → Replies (Printing (record { model = m })) reply.status (bytes_of reply.text)
+replies_printed m reply text e s t = ends_as no_reads (Printing (record { model = m })) status.Good reply.status (printed (shipped_data m)) (bytes_of reply.text) s (t ∙ e) ([], refl, refl)

@@ -81,11 +81,11 @@ asks_more (Some a) (Some b) (Some c) xs ys p q = q ∙ ap (λ l. l ++ ys) p ∙ 
 
 -- ---- one part of a call after another
 
-has_more : (told mid : Told) (first files : List FileRead) → mid ≡ told → HasAll told first → HasAll mid files → HasAll told (first ++ files)
+pub has_more : (told mid : Told) (first files : List FileRead) → mid ≡ told → HasAll told first → HasAll mid files → HasAll told (first ++ files)
 has_more told mid [] files e h k = subst (λ t. HasAll t files) e k
 has_more told mid (file ∷ first) files e h k = (h.0, has_more told mid first files e h.1 k)
 
-names_more : (first files : List FileRead) → names_of (first ++ files) ≡ names_of first ++ names_of files
+pub names_more : (first files : List FileRead) → names_of (first ++ files) ≡ names_of first ++ names_of files
 names_more [] files = refl
 names_more (file ∷ first) files = ap (λ l. file.name ∷ l) (names_more first files)
 

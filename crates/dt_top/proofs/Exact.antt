@@ -1,5 +1,5 @@
 -- Over files that are told, where no read failed, a call comes to what words and files have.
-use Rattle.std.proofs.Common.{◌≡◌, ◌≢◌, ℕ, ◌+◌, ◌⊎◌, inl, inr, not, List, [], ◌∷◌, Option, Some, None, refl, sym, ap, subst, ◌∙◌}
+use Rattle.std.proofs.Common.{◌≡◌, ◌≢◌, ℕ, ◌+◌, ◌≤◌, ◌⊎◌, inl, inr, not, List, [], ◌∷◌, ◌++◌, length, Option, Some, None, refl, sym, ap, subst, ◌∙◌}
 use Rattle.std.specs.Prelude.{Bool, IsTrue, All, position, codes}
 use Rattle.dt_edge.specs.Causes.{Rose}
 use Rattle.dt_edge.specs.Told.{IsAbsent, IsLong, after}
@@ -13,19 +13,33 @@ use Rattle.dt_image.proofs.ReadImages.{reads_image}
 use Rattle.dt_satisfy.specs.Satisfies.{Satisfies, verdict_of}
 use Rattle.dt_satisfy.specs.declared.verdict.Judged.TheVariants as judged
 use Rattle.dt_satisfy.proofs.Verdicts.{satisfies_all}
-use Rattle.dt_top.specs.Course.{FileRead, Outcome, answers, needs}
+use Rattle.dt_top.specs.Course.{FileRead, Outcome, answers, needs, Answered, OnFile}
 use Rattle.dt_top.specs.Files.{limit_of}
-use Rattle.dt_top.specs.Headline.{AskedFor, AskedToJudge}
+use Rattle.dt_top.specs.Headline.{HasModel, AskedFor, AskedToJudge, AskedToWalk, AskedToPrint}
 use Rattle.dt_top.specs.Lines.{read_fault_line, too_long_line, breaks_line}
+use Rattle.dt_top.specs.Models.{ModelAsked, shipped, of_file, shipped_data, IsModelOf, OnModelAndList}
 use Rattle.dt_top.specs.Record.{zero_record}
 use Rattle.dt_top.specs.Seen.{Seen, IsQuiet, HasAll}
-use Rattle.dt_top.specs.Table.{Ends, JobEnds, in_call, in_files, Row, Files, Expected, IsMemoryOrWriteFault, Comes, Writes}
+use Rattle.dt_modeltext.specs.Print.{printed as text_of_model}
+use Rattle.dt_walktext.specs.Printed.{walks_text}
+use Rattle.dt_top.specs.Table.{Outside, Ends, JobEnds, in_call, in_files, Row, Files, Expected, IsMemoryOrWriteFault, Comes, Writes}
 use Rattle.dt_top.specs.Zeros.{zero_image}
 use Rattle.dt_top.specs.commands.Jobs.{Job, solve, replay, job_of, files_of, Doing}
-use Rattle.dt_top.specs.commands.Solve.{ZerosSatisfy}
+use Rattle.dt_top.specs.Stages.{IsRequests, OnRequests}
+use Rattle.dt_top.specs.commands.Replay.{JudgingBytes}
+use Rattle.dt_top.specs.commands.Solve.{ZerosSatisfy, Trying}
+use Rattle.dt_top.specs.declared.file.File.{File}
+use Rattle.dt_top.specs.declared.file.File.TheVariants as file
+use Rattle.dt_top.specs.declared.models.Shipped.{Shipped}
+use Rattle.dt_top.specs.declared.models.Shipped.TheVariants.{Sv39}
 use Rattle.dt_top.specs.declared.status.Status.{Status}
 use Rattle.dt_top.specs.declared.status.Status.TheVariants as status
-use Rattle.dt_top.proofs.Ended.{ends_along}
+use Rattle.dt_model.specs.Faults.{IsAccepted}
+use Rattle.dt_model.proofs.Certified.{certified_is}
+use Rattle.dt_sv39.specs.Shipped.{sv39_data}
+use Rattle.dt_sv39.proofs.Acceptance.{sv39_certified}
+use Rattle.dt_top.proofs.Commanded.{found_on}
+use Rattle.dt_top.proofs.Ended.{ends_along, has_more}
 use Rattle.dt_top.proofs.Single.{Stops, IsSingle, single_doing}
 
 -- ---- what is expected is one status and one text
@@ -101,6 +115,21 @@ no_want w files course status.RequestsRefused text not h = h
 no_want w files course status.InputRefused text not h = h
 no_want w files course status.TooLarge text not h = h
 
+-- memory ran out, or a write failed, or neither
+mishap_or : (came : Status) → IsMemoryOrWriteFault came ⊎ ((came ≡ status.Memory → ⊥) × (came ≡ status.WriteFault → ⊥))
+mishap_or status.Memory = inl (inl refl)
+mishap_or status.WriteFault = inl (inr refl)
+mishap_or status.Good = inr ((λ e. cc e), (λ e. cc e))
+mishap_or status.No = inr ((λ e. cc e), (λ e. cc e))
+mishap_or status.Spent = inr ((λ e. cc e), (λ e. cc e))
+mishap_or status.Words = inr ((λ e. cc e), (λ e. cc e))
+mishap_or status.ModelRefused = inr ((λ e. cc e), (λ e. cc e))
+mishap_or status.RequestsRefused = inr ((λ e. cc e), (λ e. cc e))
+mishap_or status.InputRefused = inr ((λ e. cc e), (λ e. cc e))
+mishap_or status.ReadFault = inr ((λ e. cc e), (λ e. cc e))
+mishap_or status.TooLong = inr ((λ e. cc e), (λ e. cc e))
+mishap_or status.TooLarge = inr ((λ e. cc e), (λ e. cc e))
+
 module _ (s : Seen) (files : Files) (told : s.told ≡ Some files) (quiet : Rose s.faults s.faults_after → ⊥) where
   has : (given : List FileRead) → HasAll s.told given → HasAll (Some files) given
   has given h = subst (λ t. HasAll t given) told h
@@ -118,20 +147,6 @@ module _ (s : Seen) (files : Files) (told : s.told ≡ Some files) (quiet : Rose
   came_exactly : (words : List (List ℕ)) (came due : Status) (text want : List ℕ) → (came ≡ status.Memory → ⊥) → Row s words came text → Expected words files due want → (came ≡ due) × (text ≡ want)
   came_exactly words came due text want not row d = job_one files (job_of words) came due text want (job_expected (job_of words) came text not row) d
 
-  mishap_or : (came : Status) → IsMemoryOrWriteFault came ⊎ ((came ≡ status.Memory → ⊥) × (came ≡ status.WriteFault → ⊥))
-  mishap_or status.Memory = inl (inl refl)
-  mishap_or status.WriteFault = inl (inr refl)
-  mishap_or status.Good = inr ((λ e. cc e), (λ e. cc e))
-  mishap_or status.No = inr ((λ e. cc e), (λ e. cc e))
-  mishap_or status.Spent = inr ((λ e. cc e), (λ e. cc e))
-  mishap_or status.Words = inr ((λ e. cc e), (λ e. cc e))
-  mishap_or status.ModelRefused = inr ((λ e. cc e), (λ e. cc e))
-  mishap_or status.RequestsRefused = inr ((λ e. cc e), (λ e. cc e))
-  mishap_or status.InputRefused = inr ((λ e. cc e), (λ e. cc e))
-  mishap_or status.ReadFault = inr ((λ e. cc e), (λ e. cc e))
-  mishap_or status.TooLong = inr ((λ e. cc e), (λ e. cc e))
-  mishap_or status.TooLarge = inr ((λ e. cc e), (λ e. cc e))
-
   pub comes_exactly : (words : List (List ℕ)) (came : Status) (old new : Option (List ℕ)) (sent sent_after : Option (List (List ℕ)))
       → (came ≢ status.WriteFault → Writes (Row s words came) old new sent sent_after) → (due : Status) (want : List ℕ) → Expected words files due want → Comes due want came old new
   comes_exactly words came old new sent sent_after writes due want d =
@@ -145,27 +160,42 @@ module _ (s : Seen) (files : Files) (told : s.told ≡ Some files) (quiet : Rose
 
 -- ---- the headlines
 
+-- the files of a model that words name
+model_given : (files : Files) (model : ModelAsked) (d : ModelData) → HasModel files model d → (given : List FileRead) × HasAll (Some files) given × IsModelOf model given d
+model_given files (shipped s) d h = ([], tt, h)
+model_given files (of_file name) d h = (record { name = name; bytes = h.0 } ∷ [], (h.1, tt), (refl, h.2, h.3))
+
+shipped_accepted : (s : Shipped) → IsAccepted (shipped_data s)
+shipped_accepted Sv39 = certified_is sv39_data sv39_certified
+
+model_accepted : (files : Files) (model : ModelAsked) (d : ModelData) → HasModel files model d → IsAccepted d
+model_accepted files (shipped s) d h = subst IsAccepted (sym h) (shipped_accepted s)
+model_accepted files (of_file name) d h = let text = h.3 in text.accepted
+
+-- the files of a model and a list, before others, and what a command says of them
+both_given : (files : Files) (model : ModelAsked) (requests text : List ℕ) (d : ModelData) (list : Requests) (next : ModelData → Requests → List FileRead → Outcome → Type 0) (more : List FileRead) (outcome : Outcome)
+    → HasModel files model d → files requests ≡ Some text → length text ≤ limit_of file.Requests → IsRequests d text list → HasAll (Some files) more → next d list more outcome
+    → (given : List FileRead) × OnModelAndList model requests next given outcome × HasAll (Some files) given
+both_given files model requests text d list next more outcome h has within spelled others goes =
+    let m = model_given files model d h in
+    let listed : FileRead = record { name = requests; bytes = text } in
+    (m.0 ++ listed ∷ more, found_on model m.0 d (λ d. OnFile file.Requests requests (λ t. OnRequests d t (next d))) m.2 (listed ∷ more) outcome (refl, within, inr (list, spelled, goes)), has_more (Some files) (Some files) m.0 (listed ∷ more) refl m.1 (has, others))
+
 expected_answer : (words : List (List ℕ)) (files : Files) (d : ModelData) (list : Requests) → (a : AskedFor words files d list) → (came : Status) (text : List ℕ)
     → JobEnds (λ names. in_files ⊥ files) (Some (solve a.job)) came text → Expected words files came text
 expected_answer words files d list a came text h = subst (λ j. JobEnds (λ names. in_files ⊥ files) j came text) (sym a.form) h
 
 pub expected_image : (words : List (List ℕ)) (files : Files) (d : ModelData) (list : Requests) → AskedFor words files d list → ZerosSatisfy d list → Expected words files status.Good (printed (zero_image d list))
 expected_image words files d list a z =
-    let m = a.model in let r = a.requests in
-    expected_answer words files d list a status.Good (printed (zero_image d list)) (
-      record { name = a.job.model; bytes = m.0 } ∷ record { name = a.job.requests; bytes = r.0 } ∷ [],
-      (refl, m.2, inr (d, m.3, (refl, r.2, inr (list, r.3, inl (z, refl))))),
-      (m.1, (r.1, tt)),
-    )
+    let r = a.requests in
+    expected_answer words files d list a status.Good (printed (zero_image d list))
+    (both_given files a.job.model a.job.requests r.0 d list Trying [] (answers status.Good (printed (zero_image d list))) a.model r.1 r.2 r.3 tt (inl (z, refl)))
 
 pub expected_record : (words : List (List ℕ)) (files : Files) (d : ModelData) (list : Requests) → AskedFor words files d list → (ZerosSatisfy d list → ⊥) → Expected words files status.Spent (zero_record (choice_count d list))
 expected_record words files d list a z =
-    let m = a.model in let r = a.requests in
-    expected_answer words files d list a status.Spent (zero_record (choice_count d list)) (
-      record { name = a.job.model; bytes = m.0 } ∷ record { name = a.job.requests; bytes = r.0 } ∷ [],
-      (refl, m.2, inr (d, m.3, (refl, r.2, inr (list, r.3, inr (z, refl))))),
-      (m.1, (r.1, tt)),
-    )
+    let r = a.requests in
+    expected_answer words files d list a status.Spent (zero_record (choice_count d list))
+    (both_given files a.job.model a.job.requests r.0 d list Trying [] (answers status.Spent (zero_record (choice_count d list))) a.model r.1 r.2 r.3 tt (inr (z, refl)))
 
 expected_judgement : (words : List (List ℕ)) (files : Files) (d : ModelData) (list : Requests) (i : Image) → (a : AskedToJudge words files d list i) → (came : Status) (text : List ℕ)
     → JobEnds (λ names. in_files ⊥ files) (Some (replay a.job)) came text → Expected words files came text
@@ -173,21 +203,17 @@ expected_judgement words files d list i a came text h = subst (λ j. JobEnds (λ
 
 pub expected_yes : (words : List (List ℕ)) (files : Files) (d : ModelData) (list : Requests) (i : Image) → AskedToJudge words files d list i → Satisfies d list i → Expected words files status.Good (codes "satisfies\n")
 expected_yes words files d list i a z =
-    let m = a.model in let r = a.requests in let f = a.image in
-    expected_judgement words files d list i a status.Good (codes "satisfies\n") (
-      record { name = a.job.model; bytes = m.0 } ∷ record { name = a.job.requests; bytes = r.0 } ∷ record { name = a.job.image; bytes = f.0 } ∷ [],
-      (refl, m.2, inr (d, m.3, (refl, r.2, inr (list, r.3, (refl, f.2, inr (i, f.3, inl (z, refl))))))),
-      (m.1, (r.1, (f.1, tt))),
-    )
+    let r = a.requests in let f = a.image in
+    expected_judgement words files d list i a status.Good (codes "satisfies\n")
+    (both_given files a.job.model a.job.requests r.0 d list (λ d list. OnFile file.Image a.job.image (JudgingBytes d list)) (record { name = a.job.image; bytes = f.0 } ∷ []) (answers status.Good (codes "satisfies\n")) a.model r.1 r.2 r.3 (f.1, tt)
+    (refl, f.2, inr (i, f.3, inl (z, refl))))
 
 expected_no : (words : List (List ℕ)) (files : Files) (d : ModelData) (list : Requests) (i : Image) → AskedToJudge words files d list i → (k : ℕ) → position not (claims d list i) ≡ Some k → Expected words files status.No (breaks_line (k + 1))
 expected_no words files d list i a k z =
-    let m = a.model in let r = a.requests in let f = a.image in
-    expected_judgement words files d list i a status.No (breaks_line (k + 1)) (
-      record { name = a.job.model; bytes = m.0 } ∷ record { name = a.job.requests; bytes = r.0 } ∷ record { name = a.job.image; bytes = f.0 } ∷ [],
-      (refl, m.2, inr (d, m.3, (refl, r.2, inr (list, r.3, (refl, f.2, inr (i, f.3, inr (k, z, refl))))))),
-      (m.1, (r.1, (f.1, tt))),
-    )
+    let r = a.requests in let f = a.image in
+    expected_judgement words files d list i a status.No (breaks_line (k + 1))
+    (both_given files a.job.model a.job.requests r.0 d list (λ d list. OnFile file.Image a.job.image (JudgingBytes d list)) (record { name = a.job.image; bytes = f.0 } ∷ []) (answers status.No (breaks_line (k + 1))) a.model r.1 r.2 r.3 (f.1, tt)
+    (refl, f.2, inr (i, f.3, inr (k, z, refl))))
 
 first_broken : (o : Option ℕ) (xs : List Bool) → position not xs ≡ o → (All IsTrue xs → ⊥) → (k : ℕ) × (position not xs ≡ Some k)
 first_broken None xs e h = absurd (h (satisfies_all xs judged.Satisfies (sym (ap verdict_of e)) refl))
@@ -196,11 +222,54 @@ first_broken (Some k) xs e h = (k, e)
 pub expected_unmet : (words : List (List ℕ)) (files : Files) (d : ModelData) (list : Requests) (i : Image) → AskedToJudge words files d list i → (Satisfies d list i → ⊥)
     → (k : ℕ) × (position not (claims d list i) ≡ Some k) × Expected words files status.No (breaks_line (k + 1))
 expected_unmet words files d list i a n =
-    let m = a.model in let f = a.image in
-    let text = m.3 in let matching = f.3 in
-    let image = reads_image d f.0 i text.accepted matching.spelled in
+    let f = a.image in
+    let matching = f.3 in
+    let image = reads_image d f.0 i (model_accepted files a.job.model d a.model) matching.spelled in
     let k = first_broken (position not (claims d list i)) (claims d list i) refl (λ c. n (record { image = image; matches = matching.matches; claims = c })) in
     (k.0, k.1, expected_no words files d list i a k.0 k.1)
+
+-- ---- walks
+
+pub expected_walks : (words : List (List ℕ)) (files : Files) (s : Shipped) (i : Image) → AskedToWalk words files s i → Expected words files status.Good (walks_text (shipped_data s) i)
+expected_walks words files s i a =
+    let f = a.image in
+    subst (λ j. JobEnds (λ names. in_files ⊥ files) j status.Good (walks_text (shipped_data s) i)) (sym a.form)
+    (record { name = a.name; bytes = f.0 } ∷ [], (refl, f.2, inr (i, f.3, refl)), (f.1, tt))
+
+-- ---- a command that reads no file
+
+answer_is : (due came : Status) (want text : List ℕ) (files : List FileRead) → Answered due want files (answers came text) → (came ≡ due) × (text ≡ want)
+answer_is due came want text [] h = (cc, cc)
+answer_is due came want text (f ∷ files) h = absurd h
+
+answer_needs : (due : Status) (want : List ℕ) (files : List FileRead) (kind : File) (name : List ℕ) → Answered due want files (needs kind name) → ⊥
+answer_needs due want [] kind name h = cc
+answer_needs due want (f ∷ files) kind name h = h
+
+only_answer : (o : Outside) (due : Status) (want : List ℕ) (came : Status) (text : List ℕ) → (came ≡ status.Memory → ⊥) → Ends o (Answered due want) came text → (came ≡ due) × (text ≡ want)
+only_answer o due want status.ReadFault text not h = absurd (answer_needs due want h.0 h.1 h.2 h.3)
+only_answer o due want status.TooLong text not h = absurd (answer_needs due want h.0 h.1 h.2 h.3)
+only_answer o due want status.Memory text not h = absurd (not refl)
+only_answer o due want status.Words text not h = absurd h
+only_answer o due want status.WriteFault text not h = absurd h
+only_answer o due want status.Good text not h = answer_is due status.Good want text h.0 h.1
+only_answer o due want status.No text not h = answer_is due status.No want text h.0 h.1
+only_answer o due want status.Spent text not h = answer_is due status.Spent want text h.0 h.1
+only_answer o due want status.ModelRefused text not h = answer_is due status.ModelRefused want text h.0 h.1
+only_answer o due want status.RequestsRefused text not h = answer_is due status.RequestsRefused want text h.0 h.1
+only_answer o due want status.InputRefused text not h = answer_is due status.InputRefused want text h.0 h.1
+only_answer o due want status.TooLarge text not h = answer_is due status.TooLarge want text h.0 h.1
+
+pub prints_exactly : (s : Seen) (words : List (List ℕ)) (m : Shipped) → AskedToPrint words m → (came : Status) (old new : Option (List ℕ)) (sent sent_after : Option (List (List ℕ)))
+    → (came ≢ status.WriteFault → Writes (Row s words came) old new sent sent_after) → Comes status.Good (text_of_model (shipped_data m)) came old new
+prints_exactly s words m asked came old new sent sent_after writes =
+    elim (mishap_or came) [
+      | inl e ↦ inr e
+      | inr not ↦
+          let w = writes not.1 in
+          let e = only_answer (in_call s []) status.Good (text_of_model (shipped_data m)) came w.0 not.0 (subst (λ j. JobEnds (in_call s) j came w.0) asked w.1) in
+          inl (e.0, w.2 ∙ ap (after old) e.1)
+    ]
 
 -- ---- what else a row says
 

@@ -20,11 +20,15 @@ use Rattle.dt_image.specs.Fault.{line_of as image_line, word_of as image_word}
 use Rattle.dt_top.specs.Files.{limit_of}
 use Rattle.dt_top.specs.Lines.{bad_line, breaks_line}
 use Rattle.dt_top.specs.Seen.{HasAll}
-use Rattle.dt_top.specs.Stages.{IsRefusedModel, OnModel, IsRequests, IsRefusedList, OnRequests, IsMatching, IsRefusedImage, OnImage, OnModelAndList}
+use Rattle.dt_top.specs.Stages.{IsRefusedModel, OnModel, IsRequests, IsRefusedList, OnRequests, IsBadImage, OnModelImage, IsMatching, IsRefusedImage, OnImage}
+use Rattle.dt_top.specs.Models.{ModelAsked, shipped, of_file, shipped_data, OnModelWord, OnModelAndList}
 use Rattle.dt_top.specs.Table.{Files}
-use Rattle.dt_top.specs.commands.Jobs.{Job, solve, replay, Doing}
+use Rattle.dt_top.specs.commands.Jobs.{Job, solve, replay, walk, model, Doing}
 use Rattle.dt_top.specs.commands.Replay.{Judging, JudgingBytes}
 use Rattle.dt_top.specs.commands.Solve.{Trying}
+use Rattle.dt_top.specs.commands.Walk.{WalkingBytes}
+use Rattle.dt_modeltext.specs.Print.{printed}
+use Rattle.dt_walktext.specs.Printed.{walks_text}
 use Rattle.dt_top.specs.declared.file.File.{File}
 use Rattle.dt_top.specs.declared.file.File.TheVariants as file
 use Rattle.dt_top.specs.declared.status.Status.{Status}
@@ -111,11 +115,16 @@ single_list files d bytes next one given other out end hg ho sg so (inr p) (inl 
 single_list files d bytes next one given other out end hg ho sg so (inr p) (inr q) =
     one p.0 given other out end hg ho sg so p.2 (subst (λ l. next l other end) (one_list d bytes q.0 p.0 q.1 p.1) q.2)
 
-single_both : (files : Files) (m r : List ℕ) (next : ModelData → Requests → List FileRead → Outcome → Type 0) → ((d : ModelData) (list : Requests) → IsSingle files (next d list)) → IsSingle files (OnModelAndList m r next)
+-- ---- the models that words name
+
+single_word : (files : Files) (model : ModelAsked) (next : ModelData → List FileRead → Outcome → Type 0) → ((d : ModelData) → IsSingle files (next d)) → IsSingle files (OnModelWord model next)
+single_word files (shipped s) next one = one (shipped_data s)
+single_word files (of_file name) next one = single_file files file.Model name (λ bytes. OnModel bytes next) (λ bytes. single_model files bytes next one)
+
+single_both : (files : Files) (m : ModelAsked) (r : List ℕ) (next : ModelData → Requests → List FileRead → Outcome → Type 0) → ((d : ModelData) (list : Requests) → IsSingle files (next d list)) → IsSingle files (OnModelAndList m r next)
 single_both files m r next one =
-    single_file files file.Model m (λ bytes. OnModel bytes (λ d. OnFile file.Requests r (λ text. OnRequests d text (next d))))
-    (λ bytes. single_model files bytes (λ d. OnFile file.Requests r (λ text. OnRequests d text (next d)))
-    (λ d. single_file files file.Requests r (λ text. OnRequests d text (next d)) (λ text. single_list files d text (next d) (one d))))
+    single_word files m (λ d. OnFile file.Requests r (λ text. OnRequests d text (next d)))
+    (λ d. single_file files file.Requests r (λ text. OnRequests d text (next d)) (λ text. single_list files d text (next d) (one d)))
 
 -- ---- images
 
@@ -128,17 +137,28 @@ image_fault d bytes e f p q = let k = sym p ∙ q in cc
 no_image : (d : ModelData) (bytes : List ℕ) (e : ImageFault) (i : Image) → reading d bytes ≡ Err e → reading d bytes ≡ Ok i → ⊥
 no_image d bytes e i p q = let k : Err e ≡ Ok i = sym p ∙ q in cc
 
+bad_image_one : (d : ModelData) (bytes text line : List ℕ) → IsBadImage d bytes text → IsBadImage d bytes line → text ≡ line
+bad_image_one d bytes text line a b =
+    let same = image_fault d bytes a.fault b.fault a.refused b.refused in
+    let n = some_is a.number b.number (sym a.place ∙ ap image_line same ∙ b.place) in
+    a.line ∙ ap (λ k. bad_line (codes "image") k (image_word a.fault)) n ∙ ap (λ f. bad_line (codes "image") b.number (image_word f)) same ∙ sym b.line
+
 refused_image_one : (d : ModelData) (list : Requests) (bytes text line : List ℕ) → IsRefusedImage d list bytes text → IsRefusedImage d list bytes line → text ≡ line
-refused_image_one d list bytes text line (inl a) (inl b) =
-    let same = image_fault d bytes a.0 b.0 a.2 b.2 in
-    let n = some_is a.1 b.1 (sym a.3 ∙ ap image_line same ∙ b.3) in
-    a.4 ∙ ap (λ k. bad_line (codes "image") k (image_word a.0)) n ∙ ap (λ f. bad_line (codes "image") b.1 (image_word f)) same ∙ sym b.4
-refused_image_one d list bytes text line (inl a) (inr b) = absurd (no_image d bytes a.0 b.0 a.2 b.1)
-refused_image_one d list bytes text line (inr a) (inl b) = absurd (no_image d bytes b.0 a.0 b.2 a.1)
+refused_image_one d list bytes text line (inl a) (inl b) = bad_image_one d bytes text line a b
+refused_image_one d list bytes text line (inl a) (inr b) = absurd (no_image d bytes a.fault b.0 a.refused b.1)
+refused_image_one d list bytes text line (inr a) (inl b) = absurd (no_image d bytes b.fault a.0 b.refused a.1)
 refused_image_one d list bytes text line (inr a) (inr b) = a.3 ∙ sym b.3
 
+single_model_image : (files : Files) (d : ModelData) (bytes : List ℕ) (next : Image → List FileRead → Outcome → Type 0) → ((i : Image) → IsSingle files (next i)) → IsSingle files (OnModelImage d bytes next)
+single_model_image files d bytes next one given other out end hg ho sg so (inl p) (inl q) =
+    single_answered files status.InputRefused p.0 given other out end hg ho sg so p.2 (subst (λ t. Answered status.InputRefused t other end) (bad_image_one d bytes q.0 p.0 q.1 p.1) q.2)
+single_model_image files d bytes next one given other out end hg ho sg so (inl p) (inr q) = let r = p.1 in absurd (no_image d bytes r.fault q.0 r.refused q.1)
+single_model_image files d bytes next one given other out end hg ho sg so (inr p) (inl q) = let r = q.1 in absurd (no_image d bytes r.fault p.0 r.refused p.1)
+single_model_image files d bytes next one given other out end hg ho sg so (inr p) (inr q) =
+    one p.0 given other out end hg ho sg so p.2 (subst (λ i. next i other end) (one_image d bytes q.0 p.0 q.1 p.1) q.2)
+
 not_matching : (d : ModelData) (list : Requests) (bytes text : List ℕ) (i : Image) → IsRefusedImage d list bytes text → IsMatching d list bytes i → ⊥
-not_matching d list bytes text i (inl a) m = no_image d bytes a.0 i a.2 m.spelled
+not_matching d list bytes text i (inl a) m = no_image d bytes a.fault i a.refused m.spelled
 not_matching d list bytes text i (inr a) m = a.2 (subst (λ j. Matches list j) (one_image d bytes i a.0 m.spelled a.1) m.matches)
 
 single_image : (files : Files) (d : ModelData) (list : Requests) (bytes : List ℕ) (next : Image → List FileRead → Outcome → Type 0) → ((i : Image) → IsSingle files (next i)) → IsSingle files (OnImage d list bytes next)
@@ -178,3 +198,7 @@ single_doing files (solve job) = single_both files job.model job.requests Trying
 single_doing files (replay job) =
     single_both files job.model job.requests (λ d list. OnFile file.Image job.image (JudgingBytes d list))
     (λ d list. single_file files file.Image job.image (JudgingBytes d list) (λ bytes. single_image files d list bytes (Judging d list) (single_judging files d list)))
+single_doing files (walk job) =
+    single_file files file.Image job.image (WalkingBytes (shipped_data job.model))
+    (λ bytes. single_model_image files (shipped_data job.model) bytes (λ i. Answered status.Good (walks_text (shipped_data job.model) i)) (λ i. single_answered files status.Good (walks_text (shipped_data job.model) i)))
+single_doing files (model job) = single_answered files status.Good (printed (shipped_data job.model))

@@ -7,6 +7,7 @@ pub mod Zeros
 pub mod Record
 pub mod Course
 pub mod Stages
+pub mod Models
 pub mod commands
 pub mod Seen
 pub mod Table

@@ -5,8 +5,8 @@ use Rattle.dt_edge.specs.Told.{Told, Has, IsAbsent, IsLong, Asks}
 use Rattle.dt_top.specs.Course.{FileRead}
 use Rattle.dt_top.specs.Files.{limit_of}
 use Rattle.dt_model.specs.ModelData.{ModelData}
-use Rattle.dt_modeltext.specs.Read.{IsModelText}
 use Rattle.dt_request.specs.declared.list.Requests.{Requests}
+use Rattle.dt_top.specs.Models.{ModelAsked, IsModelOf}
 use Rattle.dt_top.specs.Stages.{IsRequests}
 use Rattle.dt_top.specs.declared.file.File.{File}
 use Rattle.dt_top.specs.declared.file.File.TheVariants as file
@@ -75,14 +75,21 @@ pub record Took (s : Seen) (file : File) (name bytes : List ℕ) : Type 0 where
   pub asks : AsksThese s (name ∷ [])
   pub quiet : IsQuiet s
 
--- the files of a model and of a list for it were read, and nothing else happened
-pub record TookBoth (s : Seen) (model requests : List ℕ) (d : ModelData) (list : Requests) : Type 0 where
-  pub bytes : List ℕ
-  pub text : List ℕ
-  pub has : HasAll s.told (record { name = model; bytes = bytes } ∷ record { name = requests; bytes = text } ∷ [])
-  pub within : length bytes ≤ limit_of file.Model
-  pub within_text : length text ≤ limit_of file.Requests
-  pub asks : AsksThese s (model ∷ requests ∷ [])
+-- a model was found, and nothing else happened but the read of its file
+pub record TookModel (s : Seen) (model : ModelAsked) (d : ModelData) : Type 0 where
+  pub given : List FileRead
+  pub has : HasAll s.told given
+  pub asks : AsksThese s (names_of given)
   pub quiet : IsQuiet s
-  pub accepted : IsModelText bytes d
+  pub found : IsModelOf model given d
+
+-- a model and a list for it were found, and nothing else happened but the reads of their files
+pub record TookBoth (s : Seen) (model : ModelAsked) (requests : List ℕ) (d : ModelData) (list : Requests) : Type 0 where
+  pub given : List FileRead
+  pub text : List ℕ
+  pub has : HasAll s.told (given ++ record { name = requests; bytes = text } ∷ [])
+  pub within : length text ≤ limit_of file.Requests
+  pub asks : AsksThese s (names_of given ++ requests ∷ [])
+  pub quiet : IsQuiet s
+  pub found : IsModelOf model given d
   pub spelled : IsRequests d text list

@@ -14,8 +14,7 @@ use Rattle.dt_satisfy.specs.Satisfies.{Matches}
 use Rattle.dt_top.specs.Lines.{bad_line}
 use Rattle.dt_modeltext.specs.Fault.{line_of as model_line, word_of as model_word}
 use Rattle.dt_image.specs.Fault.{line_of as image_line, word_of as image_word}
-use Rattle.dt_top.specs.Course.{FileRead, Outcome, Answered, OnFile}
-use Rattle.dt_top.specs.declared.file.File.TheVariants as file
+use Rattle.dt_top.specs.Course.{FileRead, Outcome, Answered}
 use Rattle.dt_top.specs.declared.status.Status.TheVariants as status
 
 -- ---- a model
@@ -57,6 +56,21 @@ OnRequests d bytes next files outcome =
     ((text : List ℕ) × IsRefusedList d bytes text × Answered status.RequestsRefused text files outcome)
     ⊎ ((list : Requests) × IsRequests d bytes list × next list files outcome)
 
+-- ---- an image
+
+-- the bytes have a first bad line, and this is the line that says so
+pub record IsBadImage (d : ModelData) (bytes text : List ℕ) : Type 0 where
+  pub fault : ImageFault
+  pub number : ℕ
+  pub refused : reading d bytes ≡ Err fault
+  pub place : image_line fault ≡ Some number
+  pub line : text ≡ bad_line (codes "image") number (image_word fault)
+
+abbrev pub OnModelImage : ModelData → List ℕ → (Image → List FileRead → Outcome → Type 0) → List FileRead → Outcome → Type 0
+OnModelImage d bytes next files outcome =
+    ((text : List ℕ) × IsBadImage d bytes text × Answered status.InputRefused text files outcome)
+    ⊎ ((i : Image) × (reading d bytes ≡ Ok i) × next i files outcome)
+
 -- ---- an image that matches a list
 
 -- the bytes are the text of this image, which matches the list
@@ -67,16 +81,10 @@ pub record IsMatching (d : ModelData) (list : Requests) (bytes : List ℕ) (i : 
 -- the bytes have a first bad line, or are the text of an image that doesn't match, and this is the line that says so
 abbrev pub IsRefusedImage : ModelData → Requests → List ℕ → List ℕ → Type 0
 IsRefusedImage d list bytes text =
-    ((fault : ImageFault) × (number : ℕ) × (reading d bytes ≡ Err fault) × (image_line fault ≡ Some number) × (text ≡ bad_line (codes "image") number (image_word fault)))
+    IsBadImage d bytes text
     ⊎ ((i : Image) × (reading d bytes ≡ Ok i) × (Matches list i → ⊥) × (text ≡ codes "refused image shape\n"))
 
 abbrev pub OnImage : ModelData → Requests → List ℕ → (Image → List FileRead → Outcome → Type 0) → List FileRead → Outcome → Type 0
 OnImage d list bytes next files outcome =
     ((text : List ℕ) × IsRefusedImage d list bytes text × Answered status.InputRefused text files outcome)
     ⊎ ((i : Image) × IsMatching d list bytes i × next i files outcome)
-
--- ---- the files of a model and a list, of which many commands begin
-
-abbrev pub OnModelAndList : List ℕ → List ℕ → (ModelData → Requests → List FileRead → Outcome → Type 0) → List FileRead → Outcome → Type 0
-OnModelAndList model requests next =
-    OnFile file.Model model (λ bytes. OnModel bytes (λ d. OnFile file.Requests requests (λ text. OnRequests d text (next d))))

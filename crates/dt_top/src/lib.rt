@@ -1,6 +1,6 @@
 //! All that the program does, over any shelf and sink: it reads the files that its words name, and
 //! answers with one text and one status. `solve` tries the image of zeros for a list; `replay` judges
-//! the image in a file. A command is a module of `commands`, with its definition in `specs/commands`:
+//! the image in a file; `walk` prints the walks of an image, and `model` a shipped model. A command is a module of `commands`, with its definition in `specs/commands`:
 //! its words, its files in order, and how it goes.
 //!
 //! Proved: what words and the bytes of files come to is one relation (`specs/commands`), and `run`
@@ -21,6 +21,7 @@
 mod commands;
 mod file;
 mod in_memory;
+mod models;
 mod pieces;
 mod program;
 mod reading;
@@ -31,10 +32,13 @@ mod status;
 mod words;
 mod zeros;
 
-pub use commands::{Job, ReplayJob, SolveJob, image_reply, solve_reply};
+pub use commands::{
+    Job, ModelJob, ReplayJob, SolveJob, WalkJob, image_reply, print_reply, solve_reply, walk_reply,
+};
 pub use file::File;
 pub use in_memory::run_in_memory;
+pub use models::{ModelWord, Shipped};
 pub use program::run;
 pub use reply::{Reply, Text};
-pub use stages::{accepted_model, matching_image, request_list};
+pub use stages::{accepted_model, matching_image, model_image, request_list};
 pub use status::Status;

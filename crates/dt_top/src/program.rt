@@ -5,7 +5,11 @@ ghost use Rattle.dt_edge.specs.Causes.{Rose};
 ghost use Rattle.dt_model.specs.ModelData.{ModelData};
 ghost use Rattle.dt_request.specs.declared.list.Requests.{Requests};
 ghost use Rattle.dt_image.specs.declared.image.Image.{Image};
-ghost use Rattle.dt_top.specs.Headline.{AskedFor, IsAnswer, AskedToJudge, IsJudgement};
+ghost use Rattle.dt_top.specs.Headline.{AskedFor, IsAnswer, AskedToJudge, IsJudgement, AskedToWalk, AskedToPrint};
+ghost use Rattle.dt_top.specs.Models.{shipped_data};
+ghost use Rattle.dt_top.specs.declared.models.Shipped.{Shipped};
+ghost use Rattle.dt_modeltext.specs.Print.{printed};
+ghost use Rattle.dt_walktext.specs.Printed.{walks_text};
 ghost use Rattle.dt_top.specs.Replies.{bytes_of};
 ghost use Rattle.dt_top.specs.Seen.{seen, StaysShelf};
 ghost use Rattle.dt_top.specs.Table.{Row, Files, Expected, Comes, Writes, WritesPart};
@@ -79,6 +83,19 @@ pub fn run<S: Shelf, K: Sink>(
         → S.told shelf.old ≡ Some files → ¬ Rose (S.faults shelf.old) (S.faults shelf.new)
         → AskedToJudge (map string_bytes words.now) files d list i
         → IsJudgement d list i result (K.written sink.old) (K.written sink.new) }
+
+    // The walks: for a shipped model and an image for it, where no read failed, the answer is the text
+    // of the walk of each access.
+    ensures walks { (files : Files) (model : Shipped) (i : Image) → S.told shelf.old ≡ Some files
+        → ¬ Rose (S.faults shelf.old) (S.faults shelf.new)
+        → AskedToWalk (map string_bytes words.now) files model i
+        → Comes Status.Good (walks_text (shipped_data model) i) result
+        (K.written sink.old) (K.written sink.new) }
+
+    // A shipped model is printed whatever the shelf has.
+    ensures prints { (model : Shipped) → AskedToPrint (map string_bytes words.now) model
+        → Comes Status.Good (printed (shipped_data model)) result
+        (K.written sink.old) (K.written sink.new) }
 
     // Words of no form are always told, without memory.
     ensures words { job_of (map string_bytes words.now) ≡ None

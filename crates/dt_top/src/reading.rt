@@ -1,15 +1,16 @@
 // The files that a command reads, one after another.
-ghost use Rattle.std.specs.Prelude.{◌≡◌, ◌≤◌, ◌∷◌, [], ℕ, List, length, IfOk, IfErr};
+ghost use Rattle.std.specs.Prelude.{◌≡◌, ◌≤◌, ◌∷◌, ◌++◌, [], ℕ, List, length, IfOk, IfErr};
 ghost use Rattle.dt_model.specs.Accepted.{accepted_data};
 ghost use Rattle.dt_request.specs.Lists.{IsList};
-ghost use Rattle.dt_modeltext.specs.Read.{IsModelText};
 ghost use Rattle.dt_top.specs.Course.{Never, OnFile};
 ghost use Rattle.dt_top.specs.Replies.{bytes_of};
-ghost use Rattle.dt_top.specs.Seen.{seen, StaysShelf, Took, TookBoth};
-ghost use Rattle.dt_top.specs.Stages.{OnModel, IsRequests, OnRequests, OnModelAndList};
+ghost use Rattle.dt_top.specs.Seen.{seen, StaysShelf, Took, TookModel, TookBoth};
+ghost use Rattle.dt_top.specs.Stages.{OnModel, IsRequests, OnRequests};
+ghost use Rattle.dt_top.specs.Models.{shipped, of_file, model_asked, model_files, OnModelWord, OnModelAndList};
 ghost use Rattle.dt_top.specs.Table.{in_call, Ends};
 
 use crate::file::File;
+use crate::models::{ModelWord, Shipped};
 use crate::reply::Reply;
 use crate::stages::{accepted_model, request_list};
 use crate::status::Status;
@@ -43,9 +44,9 @@ pub fn read<S: Shelf>(
 /// The accepted model in the file of this name.
 pub fn model_file<S: Shelf>(alloc: Global, shelf: &mut S, name: &str) -> Result<Accepted, Reply>
     ensures shelf { StaysShelf S.told S.faults S.taken S.steady shelf.old shelf.new }
-    ensures model { IfOk result (λ model. (bytes : List ℕ)
-        × Took (seen S.told S.faults S.taken S.asked shelf.old shelf.new) File.Model name.now bytes
-        × IsModelText bytes (accepted_data model)) }
+    ensures model { IfOk result (λ model.
+        TookModel (seen S.told S.faults S.taken S.asked shelf.old shelf.new) (of_file name.now)
+        (accepted_data model)) }
     ensures refused { IfErr result (λ reply.
         Ends (in_call (seen S.told S.faults S.taken S.asked shelf.old shelf.new) (name.now ∷ []))
         (OnFile File.Model name.now (λ bytes. OnModel bytes (λ d. Never)))
@@ -53,6 +54,22 @@ pub fn model_file<S: Shelf>(alloc: Global, shelf: &mut S, name: &str) -> Result<
 {
     let bytes = read(alloc, shelf, File::Model, name)?;
     accepted_model(alloc, bytes.as_slice())
+}
+
+/// A shipped model, for which the shelf is left as it is.
+fn shipped_model<S: Shelf>(alloc: Global, _shelf: &mut S, model: Shipped) -> Result<Accepted, Reply>
+    ensures shelf { StaysShelf S.told S.faults S.taken S.steady _shelf.old _shelf.new }
+    ensures model { IfOk result (λ accepted.
+        TookModel (seen S.told S.faults S.taken S.asked _shelf.old _shelf.new) (shipped model)
+        (accepted_data accepted)) }
+    ensures refused { IfErr result (λ reply.
+        Ends (in_call (seen S.told S.faults S.taken S.asked _shelf.old _shelf.new) [])
+        (OnModelWord (shipped model) (λ d. Never)) reply.status (bytes_of reply.text)) }
+{
+    match model.build(alloc) {
+        Ok(accepted) => Ok(accepted),
+        Err(_) => Err(Reply::no_memory()),
+    }
 }
 
 /// The list for a model in the file of this name.
@@ -77,6 +94,27 @@ pub fn list_file<S: Shelf>(
     request_list(alloc, model, bytes.as_slice())
 }
 
+/// The model that a word names: a shipped one, or the accepted one in a file.
+pub fn model_of<S: Shelf>(
+    alloc: Global,
+    shelf: &mut S,
+    word: ModelWord<'_>,
+) -> Result<Accepted, Reply>
+    ensures shelf { StaysShelf S.told S.faults S.taken S.steady shelf.old shelf.new }
+    ensures model { IfOk result (λ model.
+        TookModel (seen S.told S.faults S.taken S.asked shelf.old shelf.new) (model_asked word.entry)
+        (accepted_data model)) }
+    ensures refused { IfErr result (λ reply.
+        Ends (in_call (seen S.told S.faults S.taken S.asked shelf.old shelf.new)
+        (model_files (model_asked word.entry))) (OnModelWord (model_asked word.entry) (λ d. Never))
+        reply.status (bytes_of reply.text)) }
+{
+    match word {
+        ModelWord::File(name) => model_file(alloc, shelf, name),
+        ModelWord::Shipped(model) => shipped_model(alloc, shelf, model),
+    }
+}
+
 /// A model, and a list for it.
 #[derive(Debug, Drop)]
 pub struct Question {
@@ -84,24 +122,25 @@ pub struct Question {
     pub list: Requests,
 }
 
-/// The model and the list in the files of these names, of which many commands begin.
+/// The model that a word names and the list in the file of a name, of which many commands begin.
 pub fn model_and_list<S: Shelf>(
     alloc: Global,
     shelf: &mut S,
-    model: &str,
+    model: ModelWord<'_>,
     requests: &str,
 ) -> Result<Question, Reply>
     ensures shelf { StaysShelf S.told S.faults S.taken S.steady shelf.old shelf.new }
     ensures both { IfOk result (λ question.
-        TookBoth (seen S.told S.faults S.taken S.asked shelf.old shelf.new) model.now requests.now
-        (accepted_data question.model) question.list) }
+        TookBoth (seen S.told S.faults S.taken S.asked shelf.old shelf.new) (model_asked model.entry)
+        requests.now (accepted_data question.model) question.list) }
     ensures list { IfOk result (λ question. IsList (accepted_data question.model) question.list) }
     ensures refused { IfErr result (λ reply.
         Ends (in_call (seen S.told S.faults S.taken S.asked shelf.old shelf.new)
-        (model.now ∷ requests.now ∷ []))
-        (OnModelAndList model.now requests.now (λ d list. Never)) reply.status (bytes_of reply.text)) }
+        (model_files (model_asked model.entry) ++ requests.now ∷ []))
+        (OnModelAndList (model_asked model.entry) requests.now (λ d list. Never))
+        reply.status (bytes_of reply.text)) }
 {
-    let model = model_file(alloc, shelf, model)?;
+    let model = model_of(alloc, shelf, model)?;
     let list = list_file(alloc, shelf, &model, requests)?;
     Ok(Question { model, list })
 }

@@ -1,5 +1,5 @@
 // What the bytes of files are: a model, a list for it, an image that matches the list.
-ghost use Rattle.std.specs.Prelude.{◌≡◌, ◌≤◌, length, IfOk, IfErr};
+ghost use Rattle.std.specs.Prelude.{◌≡◌, ◌≤◌, length, Ok, IfOk, IfErr};
 ghost use Rattle.dt_model.specs.Accepted.{accepted_data};
 ghost use Rattle.dt_modeltext.specs.Read.{IsModelText};
 ghost use Rattle.dt_request.specs.Lists.{IsList};
@@ -7,7 +7,8 @@ ghost use Rattle.dt_image.specs.Images.{IsImage};
 ghost use Rattle.dt_top.specs.Course.{Never};
 ghost use Rattle.dt_top.specs.Files.{limit_of};
 ghost use Rattle.dt_top.specs.Replies.{bytes_of};
-ghost use Rattle.dt_top.specs.Stages.{OnModel, IsRequests, OnRequests, IsMatching, OnImage};
+ghost use Rattle.dt_top.specs.Stages.{OnModel, IsRequests, OnRequests, IsMatching, OnImage, OnModelImage};
+ghost use Rattle.dt_image.specs.Read.{reading};
 ghost use Rattle.dt_top.specs.Table.{Replies};
 
 use crate::file::File;
@@ -70,6 +71,21 @@ pub fn matching_image(
             }
             Ok(image)
         }
+        Err(fault) => Err(Reply::refused(alloc, File::Image, fault.line(), fault.word())),
+    }
+}
+
+/// The image for a model that a file's bytes spell, or the refusal of the bytes.
+pub fn model_image(alloc: Global, model: &Accepted, bytes: &[u8]) -> Result<Image, Reply>
+    requires { length bytes.now ≤ limit_of File.Image }
+    ensures text { IfOk result (λ image. reading (accepted_data model.now) bytes.now ≡ Ok image) }
+    ensures image { IfOk result (IsImage (accepted_data model.now)) }
+    ensures refused { IfErr result (λ reply.
+        Replies (OnModelImage (accepted_data model.now) bytes.now (λ image. Never))
+        reply.status (bytes_of reply.text)) }
+{
+    match read_image(alloc, model, bytes) {
+        Ok(image) => Ok(image),
         Err(fault) => Err(Reply::refused(alloc, File::Image, fault.line(), fault.word())),
     }
 }

@@ -7,14 +7,18 @@ ghost use Rattle.dt_top.specs.Seen.{seen, StaysShelf};
 ghost use Rattle.dt_top.specs.Table.{in_call, Ends};
 ghost use Rattle.dt_top.specs.commands.Jobs.{job_of, asked, files_of, Doing};
 
+mod model;
 mod replay;
 mod solve;
+mod walk;
 
 use crate::reply::Reply;
 use dt_edge::Shelf;
+pub use model::{ModelJob, print_reply};
 pub use replay::{ReplayJob, image_reply};
 pub use solve::{SolveJob, solve_reply};
 use std::alloc::Global;
+pub use walk::{WalkJob, walk_reply};
 
 /// A command with its words.
 #[derive(Clone, Copy)]
@@ -23,6 +27,10 @@ pub enum Job<'a> {
     Solve(SolveJob<'a>),
     /// `replay` of an image.
     Replay(ReplayJob<'a>),
+    /// `walk` of an image.
+    Walk(WalkJob<'a>),
+    /// `model`, which prints one.
+    Model(ModelJob),
 }
 
 impl<'a> Job<'a> {
@@ -34,6 +42,8 @@ impl<'a> Job<'a> {
             [command, words @ ..] => match command.as_str() {
                 "solve" => solve::form(words).map(Job::Solve),
                 "replay" => replay::form(words).map(Job::Replay),
+                "walk" => walk::form(words).map(Job::Walk),
+                "model" => model::job(words),
                 _ => None,
             },
             [] => None,
@@ -50,5 +60,7 @@ pub fn perform<S: Shelf>(alloc: Global, shelf: &mut S, job: Job<'_>) -> Reply
     match job {
         Job::Solve(job) => solve::perform(alloc, shelf, job),
         Job::Replay(job) => replay::perform(alloc, shelf, job),
+        Job::Walk(job) => walk::perform(alloc, shelf, job),
+        Job::Model(job) => print_reply(alloc, job.model),
     }
 }

@@ -15,6 +15,7 @@ ghost use Rattle.dt_top.specs.Table.{in_call, Ends, Replies};
 ghost use Rattle.dt_top.specs.commands.Replay.{replay_of, replay_asked, replay_files, Replaying, Judging, JudgingBytes};
 
 use crate::file::File;
+use crate::models::{ModelWord, model_word};
 use crate::reading::{model_and_list, read};
 use crate::reply::Reply;
 use crate::stages::matching_image;
@@ -29,10 +30,10 @@ use dt_request::Requests;
 use dt_satisfy::{Judged, judge};
 use std::alloc::Global;
 
-/// The words of `replay`: three names of files.
+/// The words of `replay`: a model, and two names of files.
 #[derive(Clone, Copy)]
 pub struct ReplayJob<'a> {
-    pub model: &'a str,
+    pub model: ModelWord<'a>,
     pub requests: &'a str,
     pub image: &'a str,
 }
@@ -51,14 +52,17 @@ fn named<'a>(model: &'a str, requests: &'a str, image: &'a str) -> Option<Replay
     ensures { option_map replay_asked result
         ≡ replay_of (model.now ∷ requests.now ∷ image.now ∷ []) }
 {
-    if !is_file_name(model) || !is_file_name(requests) || !is_file_name(image) {
+    if !is_file_name(requests) || !is_file_name(image) {
         return None;
     }
-    Some(ReplayJob {
-        model,
-        requests,
-        image,
-    })
+    match model_word(model) {
+        Some(model) => Some(ReplayJob {
+            model,
+            requests,
+            image,
+        }),
+        None => None,
+    }
 }
 
 // The line that names the first claim that doesn't hold, counted from 1.

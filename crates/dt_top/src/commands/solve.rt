@@ -9,6 +9,7 @@ ghost use Rattle.dt_top.specs.Seen.{seen, StaysShelf};
 ghost use Rattle.dt_top.specs.Table.{in_call, Ends, Replies};
 ghost use Rattle.dt_top.specs.commands.Solve.{solve_of, solve_asked, solve_files, Solving, Trying};
 
+use crate::models::{ModelWord, model_word};
 use crate::reading::model_and_list;
 use crate::record::zero_record;
 use crate::reply::Reply;
@@ -24,10 +25,10 @@ use dt_request::{Requests, choice_count};
 use dt_satisfy::{Judged, judge};
 use std::alloc::Global;
 
-/// The words of `solve` without splits: two names of files, and a seed.
+/// The words of `solve` without splits: a model, the name of a file, and a seed.
 #[derive(Clone, Copy)]
 pub struct SolveJob<'a> {
-    pub model: &'a str,
+    pub model: ModelWord<'a>,
     pub requests: &'a str,
     pub seed: u64,
 }
@@ -51,14 +52,18 @@ fn named<'a>(model: &'a str, requests: &'a str, splits: &str, seed: &str) -> Opt
     ensures { option_map solve_asked result
         ≡ solve_of (model.now ∷ requests.now ∷ splits.now ∷ seed.now ∷ []) }
 {
-    if !is_file_name(model) || !is_file_name(requests) {
+    if !is_file_name(requests) {
         return None;
     }
     if number(splits.as_bytes()) != Some(0) {
         return None;
     }
-    match word_number(seed) {
-        Some(seed) => Some(SolveJob {
+    let seed = match word_number(seed) {
+        Some(seed) => seed,
+        None => return None,
+    };
+    match model_word(model) {
+        Some(model) => Some(SolveJob {
             model,
             requests,
             seed,

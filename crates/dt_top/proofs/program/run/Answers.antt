@@ -4,7 +4,7 @@ use Rattle.dt_top.specs.Replies.{bytes_of}
 use Rattle.dt_top.specs.Seen.{seen}
 use Rattle.dt_top.specs.commands.Jobs.{job_of}
 use Rattle.dt_top.specs.declared.status.Status.TheVariants as status
-use Rattle.dt_top.proofs.Exact.{comes_exactly, expected_image, expected_record, expected_yes, expected_unmet, row_quiet}
+use Rattle.dt_top.proofs.Exact.{comes_exactly, expected_image, expected_record, expected_yes, expected_unmet, expected_walks, prints_exactly, row_quiet}
 use Rattle.dt_top.proofs.program.run.Goals as goal
 
 pub returns-clause-reads : goal.returns-clause-reads
@@ -45,3 +45,15 @@ returns-in_default-clause-judge g c = λ files d list i told quiet asked. record
   met = λ z. inr (inr refl);
   unmet = λ z. let k = expected_unmet (map string_bytes c.args.words.now) files d list i asked z in (k.0, k.1, inr (inr refl));
 }
+
+pub returns-clause-walks : goal.returns-clause-walks
+returns-clause-walks g c = λ files m i told quiet asked.
+    comes_exactly (seen g.S.Shelf.told g.S.Shelf.faults g.S.Shelf.taken g.S.Shelf.asked c.args.shelf.now c.reply-reply.new.shelf) files told quiet (map string_bytes c.args.words.now)
+    c.reply-reply.result.status (g.K.Sink.written c.args.sink.now) (g.K.Sink.written c.write_pieces.new.sink) (g.K.Sink.pieces c.args.sink.now) (g.K.Sink.pieces c.write_pieces.new.sink)
+    (λ n. (bytes_of c.reply-reply.result.text, c.reply-reply.ensures.row, search rules, search rules)) status.Good _ (expected_walks (map string_bytes c.args.words.now) files m i asked)
+
+pub returns-clause-prints : goal.returns-clause-prints
+returns-clause-prints g c = λ m asked.
+    prints_exactly (seen g.S.Shelf.told g.S.Shelf.faults g.S.Shelf.taken g.S.Shelf.asked c.args.shelf.now c.reply-reply.new.shelf) (map string_bytes c.args.words.now) m asked
+    c.reply-reply.result.status (g.K.Sink.written c.args.sink.now) (g.K.Sink.written c.write_pieces.new.sink) (g.K.Sink.pieces c.args.sink.now) (g.K.Sink.pieces c.write_pieces.new.sink)
+    (λ n. (bytes_of c.reply-reply.result.text, c.reply-reply.ensures.row, search rules, search rules))

@@ -1,6 +1,7 @@
 use Rattle.std.proofs.Common.{◌∷◌, []}
 use Rattle.dt_model.specs.Accepted.{accepted_data}
 use Rattle.dt_top.specs.Course.{OnFile}
+use Rattle.dt_top.specs.Models.{model_asked}
 use Rattle.dt_top.specs.commands.Replay.{JudgingBytes}
 use Rattle.dt_top.specs.declared.file.File.TheVariants as file
 use Rattle.dt_top.proofs.Commanded.{ends_both, ends_neither}
@@ -10,10 +11,10 @@ pub returns-in-Ok-clause-ends : goal.returns-in-Ok-clause-ends
 returns-in-Ok-clause-ends g c =
     let q = c.in-Ok.question in
     ends_both g.S.Shelf.told g.S.Shelf.faults g.S.Shelf.taken g.S.Shelf.asked g.S.Shelf.steady c.args.shelf.now c.model_and_list.new.shelf c.replay_image.new.shelf c.model_and_list.ensures.shelf
-    c.args.job.model.now c.args.job.requests.now (accepted_data q.model) q.list c.in-Ok.ensures.both (c.args.job.image.now ∷ [])
+    (model_asked c.args.job.model) c.args.job.requests.now (accepted_data q.model) q.list c.in-Ok.ensures.both (c.args.job.image.now ∷ [])
     (λ d list. OnFile file.Image c.args.job.image.now (JudgingBytes d list)) _ _ c.replay_image.ensures.ends
 
 pub returns-in-Err-clause-ends : goal.returns-in-Err-clause-ends
 returns-in-Err-clause-ends g c =
-    ends_neither g.S.Shelf.told g.S.Shelf.faults g.S.Shelf.taken g.S.Shelf.asked g.S.Shelf.steady c.args.shelf.now c.model_and_list.new.shelf c.args.job.model.now c.args.job.requests.now (c.args.job.image.now ∷ [])
+    ends_neither g.S.Shelf.told g.S.Shelf.faults g.S.Shelf.taken g.S.Shelf.asked g.S.Shelf.steady c.args.shelf.now c.model_and_list.new.shelf (model_asked c.args.job.model) c.args.job.requests.now (c.args.job.image.now ∷ [])
     (λ d list. OnFile file.Image c.args.job.image.now (JudgingBytes d list)) _ _ c.in-Err.ensures.refused
