@@ -1,0 +1,184 @@
+use Rattle.std.proofs.Common.{◌≡◌, ℕ, ◌+◌, ◌<◌, ◌≤◌, List, [], ◌∷◌, ◌++◌, length, map, reverse, replicate, true, false, Option, Some, None, sym, ap, ◌∙◌, subst, arith, refl}
+use Rattle.std.specs.Prelude.{IfSome}
+use Rattle.dt_terms.specs.Problem.{IsProblem}
+use Rattle.dt_box.specs.Stillness.{IsSettled}
+use Rattle.dt_log.specs.declared.line.Line.TheVariants.{Loose, Unvisited}
+use Rattle.dt_log.specs.Trees.{try_line}
+use Rattle.dt_check.specs.Trials.{picks}
+use Rattle.dt_solve.specs.Tries.{tries_from}
+use Rattle.dt_check.specs.declared.pending.Pending.{Pending}
+use Rattle.dt_check.specs.Waiting.{waiting, IsNext, IsBegun}
+use Rattle.dt_propagate.specs.declared.settling.Settled.{Settled}
+use Rattle.dt_propagate.specs.Settling.{IsEnd}
+use Rattle.dt_solve.specs.Searching.{IsSearching, IsRead}
+use Rattle.dt_solve.proofs.Moves.{moved, closed, begun, refuted, begins}
+use Rattle.dt_solve.proofs.Fails.{spent, splits_on, not_known, no_aim, are_aim}
+use Rattle.dt_solve.proofs.turning.turn.Goals as goal
+
+pub close_tree-requires-clause-stacked : goal.close_tree-requires-clause-stacked
+close_tree-requires-clause-stacked g c =
+    let D = g.row.D.Denot in
+    let ops = g.D.Domain.ops in
+    let p = c.args.problem.now in
+    let aim = g.P.Proposer.aim c.args.proposer.now in
+    let s = c.args.search.now in
+    let cells = c.settle_start.new.cells in
+    let trail = c.settle_start.new.trail in
+    let lines = c.settle_start.new.draft.lines in
+    let pending = s.pending.items in
+    let problem : IsProblem p = subst IsProblem c.problem.view_is c.problem.invariant.0 in
+    let h = moved D ops p g.met.D.Domain.laws problem g.met.D.Deciding.decides c.args.limit aim s.cells s.trail pending s.draft.lines s.splits cells trail lines c.requires.at.searching c.settle_start.ensures.progress in
+    h.stacked
+
+pub close_tree-requires-clause-begin : goal.close_tree-requires-clause-begin
+close_tree-requires-clause-begin g c =
+    let D = g.row.D.Denot in
+    let ops = g.D.Domain.ops in
+    let p = c.args.problem.now in
+    let aim = g.P.Proposer.aim c.args.proposer.now in
+    let s = c.args.search.now in
+    let cells = c.settle_start.new.cells in
+    let trail = c.settle_start.new.trail in
+    let lines = c.settle_start.new.draft.lines in
+    let pending = s.pending.items in
+    let problem : IsProblem p = subst IsProblem c.problem.view_is c.problem.invariant.0 in
+    let h = moved D ops p g.met.D.Domain.laws problem g.met.D.Deciding.decides c.args.limit aim s.cells s.trail pending s.draft.lines s.splits cells trail lines c.requires.at.searching c.settle_start.ensures.progress in
+    begins D ops p cells trail (reverse pending) h.turns
+
+pub returns-in-None-clause-turned : goal.returns-in-None-clause-turned
+returns-in-None-clause-turned g c =
+    let D = g.row.D.Denot in
+    let ops = g.D.Domain.ops in
+    let p = c.args.problem.now in
+    let aim = g.P.Proposer.aim c.args.proposer.now in
+    let s = c.args.search.now in
+    let cells = c.settle_start.new.cells in
+    let trail = c.settle_start.new.trail in
+    let lines = c.settle_start.new.draft.lines in
+    let pending = s.pending.items in
+    let problem : IsProblem p = subst IsProblem c.problem.view_is c.problem.invariant.0 in
+    let h = moved D ops p g.met.D.Domain.laws problem g.met.D.Deciding.decides c.args.limit aim s.cells s.trail pending s.draft.lines s.splits cells trail lines c.requires.at.searching c.settle_start.ensures.progress in
+    let empty = subst (λ (e : Settled). IsEnd ops p.terms e cells (IsSettled ops p.terms cells)) c.in-Empty.is c.in_ok-term.ensures.end in
+    let k = closed D ops p g.met.D.Domain.laws problem g.met.D.Deciding.decides c.args.limit aim cells trail pending lines c.close_tree.new.draft.lines s.splits c.in-Empty.term h empty c.in_ok-close_tree-in-Empty.ensures.lines in (
+      refuted D ops p g.met.D.Domain.laws problem g.met.D.Deciding.decides c.args.limit aim cells trail pending c.close_tree.new.draft.lines s.splits k.0
+          (subst (IsNext ops cells trail (reverse pending) c.close_tree.new.cells c.close_tree.new.trail (reverse c.close_tree.new.pending.items)) c.in-None.is c.in_ok-close_tree-in-Empty.ensures.next),
+      k.1,
+    )
+
+pub returns-in-Some-clause-turned : goal.returns-in-Some-clause-turned
+returns-in-Some-clause-turned g c =
+    let D = g.row.D.Denot in
+    let ops = g.D.Domain.ops in
+    let p = c.args.problem.now in
+    let aim = g.P.Proposer.aim c.args.proposer.now in
+    let s = c.args.search.now in
+    let cells = c.settle_start.new.cells in
+    let trail = c.settle_start.new.trail in
+    let lines = c.settle_start.new.draft.lines in
+    let pending = s.pending.items in
+    let problem : IsProblem p = subst IsProblem c.problem.view_is c.problem.invariant.0 in
+    let h = moved D ops p g.met.D.Domain.laws problem g.met.D.Deciding.decides c.args.limit aim s.cells s.trail pending s.draft.lines s.splits cells trail lines c.requires.at.searching c.settle_start.ensures.progress in
+    let empty = subst (λ (e : Settled). IsEnd ops p.terms e cells (IsSettled ops p.terms cells)) c.in-Empty.is c.in_ok-term.ensures.end in
+    let k = closed D ops p g.met.D.Domain.laws problem g.met.D.Deciding.decides c.args.limit aim cells trail pending lines c.close_tree.new.draft.lines s.splits c.in-Empty.term h empty c.in_ok-close_tree-in-Empty.ensures.lines in
+    let new = c.close_tree.new.cells in
+    let longer = c.close_tree.new.trail in
+    let rest = reverse c.close_tree.new.pending.items in
+    let next = subst (IsNext ops cells trail (reverse pending) new longer rest) c.in-Some.is c.in_ok-close_tree-in-Empty.ensures.next in
+    let first = subst (λ (o : Option Pending). IfSome o (IsBegun ops cells trail (reverse pending) new longer rest)) c.in-Some.is c.in_ok-close_tree-in-Empty.ensures.begun in
+    let b = begun D ops p g.met.D.Domain.laws problem g.met.D.Deciding.decides c.args.limit aim cells trail pending lines c.close_tree.new.draft.lines s.splits new longer c.close_tree.new.pending.items c.in-Some.split h k.0 k.1 first next in
+    (record { searching = b.0; start = b.1 }, b.2)
+
+pub returns-then-try_numbers-clause-turned : goal.returns-then-try_numbers-clause-turned
+returns-then-try_numbers-clause-turned g c =
+    let D = g.row.D.Denot in
+    let ops = g.D.Domain.ops in
+    let p = c.args.problem.now in
+    let aim = g.P.Proposer.aim c.args.proposer.now in
+    let s = c.args.search.now in
+    let cells = c.settle_start.new.cells in
+    let trail = c.settle_start.new.trail in
+    let lines = c.settle_start.new.draft.lines in
+    let pending = s.pending.items in
+    let problem : IsProblem p = subst IsProblem c.problem.view_is c.problem.invariant.0 in
+    let h = moved D ops p g.met.D.Domain.laws problem g.met.D.Deciding.decides c.args.limit aim s.cells s.trail pending s.draft.lines s.splits cells trail lines c.requires.at.searching c.settle_start.ensures.progress in
+    let numbers = c.try_numbers.new.self.numbers.items in
+    let f = sym c.if-try_numbers.ensures.solves in
+    let told = c.if-try_numbers.ensures.told in
+    let held = c.if-try_numbers.ensures.held in
+    (c.if-try_numbers.ensures.assignment, f, are_aim D ops p cells aim numbers h.cells_are h.aimed told)
+
+pub returns-then-search-limit-clause-turned : goal.returns-then-search-limit-clause-turned
+returns-then-search-limit-clause-turned g c =
+    let D = g.row.D.Denot in
+    let ops = g.D.Domain.ops in
+    let p = c.args.problem.now in
+    let aim = g.P.Proposer.aim c.args.proposer.now in
+    let s = c.args.search.now in
+    let cells = c.settle_start.new.cells in
+    let trail = c.settle_start.new.trail in
+    let lines = c.settle_start.new.draft.lines in
+    let pending = s.pending.items in
+    let problem : IsProblem p = subst IsProblem c.problem.view_is c.problem.invariant.0 in
+    let h = moved D ops p g.met.D.Domain.laws problem g.met.D.Deciding.decides c.args.limit aim s.cells s.trail pending s.draft.lines s.splits cells trail lines c.requires.at.searching c.settle_start.ensures.progress in
+    let quiet = subst (λ (e : Settled). IsEnd ops p.terms e cells (IsSettled ops p.terms cells)) c.in-Quiet.is c.in_ok-term.ensures.end in
+    let numbers = c.try_numbers.new.self.numbers.items in
+    let f = sym c.if-try_numbers.ensures.solves in
+    let told = c.if-try_numbers.ensures.told in
+    let held = c.if-try_numbers.ensures.held in
+    let wrote = subst (λ (ns : List ℕ). c.write_tries.new.draft.lines ≡ lines ++ map try_line (tries_from 0 (picks ops p.terms cells) ns)) c.deref.ensures.value c.in_ok-write_tries-in-Quiet.ensures in
+    let size : s.pending.len ≡ length pending = omega (arith, c.len.ensures) in
+    let r = spent D ops p g.met.D.Domain.laws problem g.met.D.Deciding.decides c.args.limit aim cells trail pending lines s.splits h numbers quiet.1 held f told
+    c.write_tries.new.draft.lines c.write_rest.new.draft.lines wrote
+    (c.in_ok-write_rest-in-Quiet.ensures ∙ ap (λ n. c.write_tries.new.draft.lines ++ Loose ∷ replicate n Unvisited) (c.len.ensures ∙ size)) in (
+      subst (λ n. IsRead ops p c.args.limit aim c.write_rest.new.draft.lines [] n true) c.if-search-limit.true r,
+      no_aim D ops p aim numbers (are_aim D ops p cells aim numbers h.cells_are h.aimed told) f,
+    )
+
+pub bit_to_split-split-requires-clause-unknown : goal.bit_to_split-split-requires-clause-unknown
+bit_to_split-split-requires-clause-unknown g c =
+    let D = g.row.D.Denot in
+    let ops = g.D.Domain.ops in
+    let p = c.args.problem.now in
+    let aim = g.P.Proposer.aim c.args.proposer.now in
+    let s = c.args.search.now in
+    let cells = c.settle_start.new.cells in
+    let trail = c.settle_start.new.trail in
+    let lines = c.settle_start.new.draft.lines in
+    let pending = s.pending.items in
+    let problem : IsProblem p = subst IsProblem c.problem.view_is c.problem.invariant.0 in
+    let h = moved D ops p g.met.D.Domain.laws problem g.met.D.Deciding.decides c.args.limit aim s.cells s.trail pending s.draft.lines s.splits cells trail lines c.requires.at.searching c.settle_start.ensures.progress in
+    let quiet = subst (λ (e : Settled). IsEnd ops p.terms e cells (IsSettled ops p.terms cells)) c.in-Quiet.is c.in_ok-term.ensures.end in
+    let numbers = c.try_numbers.new.self.numbers.items in
+    let f = sym c.if-try_numbers.ensures.solves in
+    let told = c.if-try_numbers.ensures.told in
+    let held = c.if-try_numbers.ensures.held in
+    not_known D ops p g.met.D.Domain.laws problem g.met.D.Deciding.decides cells numbers h.cells_are quiet.1 h.required c.if-try_numbers.ensures.assignment held f
+
+pub returns-in_ok-split_tree-in-Quiet-clause-turned : goal.returns-in_ok-split_tree-in-Quiet-clause-turned
+returns-in_ok-split_tree-in-Quiet-clause-turned g c =
+    let D = g.row.D.Denot in
+    let ops = g.D.Domain.ops in
+    let p = c.args.problem.now in
+    let aim = g.P.Proposer.aim c.args.proposer.now in
+    let s = c.args.search.now in
+    let cells = c.settle_start.new.cells in
+    let trail = c.settle_start.new.trail in
+    let lines = c.settle_start.new.draft.lines in
+    let pending = s.pending.items in
+    let problem : IsProblem p = subst IsProblem c.problem.view_is c.problem.invariant.0 in
+    let h = moved D ops p g.met.D.Domain.laws problem g.met.D.Deciding.decides c.args.limit aim s.cells s.trail pending s.draft.lines s.splits cells trail lines c.requires.at.searching c.settle_start.ensures.progress in
+    let quiet = subst (λ (e : Settled). IsEnd ops p.terms e cells (IsSettled ops p.terms cells)) c.in-Quiet.is c.in_ok-term.ensures.end in
+    let numbers = c.try_numbers.new.self.numbers.items in
+    let f = sym c.if-try_numbers.ensures.solves in
+    let told = c.if-try_numbers.ensures.told in
+    let held = c.if-try_numbers.ensures.held in
+    let most = c.requires.at.searching.most in
+    let other = c.if-search-limit.false in
+    let wrote = subst (λ (ns : List ℕ). c.write_tries.new.draft.lines ≡ lines ++ map try_line (tries_from 0 (picks ops p.terms cells) ns)) c.deref.ensures.value c.in_ok-write_tries-in-Quiet.ensures in
+    let split = c.bit_to_split-split.result in
+    let q : Pending = record { length = length trail; term = split.term; bit = split.bit } in
+    let b = splits_on D ops p g.met.D.Domain.laws problem g.met.D.Deciding.decides c.args.limit aim cells trail pending lines s.splits h numbers quiet.1 held f told
+    c.write_tries.new.draft.lines c.split_tree.new.draft.lines c.split_tree.new.cells c.split_tree.new.trail q c.split_tree.new.pending.items
+    c.bit_to_split-split.ensures (omega arith) wrote c.in_ok-split_tree-in-Quiet.ensures.lines refl c.in_ok-split_tree-in-Quiet.ensures.pending
+    c.in_ok-split_tree-in-Quiet.ensures.cells c.in_ok-split_tree-in-Quiet.ensures.kept (no_aim D ops p aim numbers (are_aim D ops p cells aim numbers h.cells_are h.aimed told) f) in
+    (record { searching = b.0; start = b.1 }, b.2)
