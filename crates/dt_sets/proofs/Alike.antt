@@ -1,7 +1,7 @@
 -- All numbers of a width, and the bits on which numbers agree.
 use Rattle.std.proofs.Common.{◌≡◌, ℕ, ◌+◌, ◌-◌, ◌^◌, ◌<◌, ◌≤◌, Bool, true, false, not, ◌&&◌, ◌||◌, cond, ltb, leb, Some, List, [], ◌∷◌, length, get_or, take, bit_and, bit_or, bit_xor, refl, sym, ap, ◌∙◌, subst, ⊎_elim, arith}
 use Rattle.std.specs.List.{list_any, list_all}
-use Rattle.std.proofs.lemmas.Bool.{cond-false, cases_Bool}
+use Rattle.std.proofs.lemmas.Bool.{cond-false, cases_Bool, lt-leb}
 use mathlib.Core.Bool.{beq}
 use Rattle.std.proofs.lemmas.Nat.{pow_pos, or_lt, xor_lt}
 use Rattle.std.proofs.lemmas.List.{take_all}
@@ -29,10 +29,7 @@ unfolding below
 full_three w e = subst (λ n. listing w (0 ∷ 1 ∷ 2 ∷ 3 ∷ 4 ∷ 5 ∷ 6 ∷ 7 ∷ []) ≡ cond (leb n 3) (listing w (below (2 ^ n))) (everything w)) (sym e) refl
 
 pub full_wide : (w : Width) → 3 < w.0 → everything w ≡ sets_full w
-full_wide w l = sym (cond-false (leb w.0 3) (listing w (below (2 ^ w.0))) (everything w) (not_le w.0 3 l))
-  where
-    not_le : (m n : ℕ) → n < m → leb m n ≡ false
-    not_le m n h = grind arith
+full_wide w l = sym (cond-false (leb w.0 3) (listing w (below (2 ^ w.0))) (everything w) (lt-leb w.0 3 l))
 
 -- ---- agreement
 

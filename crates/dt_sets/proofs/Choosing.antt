@@ -1,7 +1,7 @@
 -- The operands that an operator uses, and one of them that has one number.
 use Rattle.std.proofs.Common.{◌≡◌, ℕ, zero, suc, ◌*◌, ◌<◌, ◌≤◌, Bool, true, false, not, ◌&&◌, ◌||◌, cond, eqb, ltb, leb, List, [], ◌∷◌, length, refl, sym, ap, ◌∙◌, subst, arith}
 use Rattle.std.specs.List.{filter}
-use Rattle.std.proofs.lemmas.Bool.{cond-true, cond-false, ltb-true}
+use Rattle.std.proofs.lemmas.Bool.{cond-true, cond-false, ltb-true, lt-ltb}
 use Rattle.std.proofs.lemmas.List.Elements.{filter_agree}
 use Rattle.std.proofs.lemmas.Nat.{pow_pos}
 use Rattle.std.proofs.Math.Nat.{mul-le-mul}
@@ -132,10 +132,7 @@ pub kept_used : (op : Op) (k : ℕ) (r a b c u v w s t : Sets) → Used op 0 a u
 kept_used op k r a b c u v w s t p q o h l =
     ap (λ x. listing x (filter (fixed_gives op k r u v w) (listed t))) h.width
     ∙ ap (listing s.width) (filter_agree (fixed_gives op k r u v w) (is_possible op k r a b c) (λ n. possible_used op k r a b c u v w n p q o) (listed t))
-    ∙ ap (λ xs. listing s.width (filter (is_possible op k r a b c) xs)) (h.numbers ∙ cond-true (ltb k (arity_of op)) (listed s) (0 ∷ []) (lt_test k (arity_of op) l))
-  where
-    lt_test : (m n : ℕ) → m < n → ltb m n ≡ true
-    lt_test m n h = grind arith
+    ∙ ap (λ xs. listing s.width (filter (is_possible op k r a b c) xs)) (h.numbers ∙ cond-true (ltb k (arity_of op)) (listed s) (0 ∷ []) (lt-ltb k (arity_of op) l))
 
 pub operand_few : (k : ℕ) (a b c : Sets) → a.many ≡ false → b.many ≡ false → c.many ≡ false → (operand k a b c).many ≡ false
 operand_few zero a b c p q r = p

@@ -1,5 +1,5 @@
 -- Loops over listed numbers.
-use Rattle.std.proofs.Common.{◌≡◌, ℕ, ◌+◌, ◌<◌, ◌≤◌, Bool, true, false, ◌||◌, cond, List, [], ◌∷◌, ◌++◌, length, get_or, take, sym, ap, ◌∙◌, subst, min, arith}
+use Rattle.std.proofs.Common.{◌≡◌, ℕ, ◌+◌, ◌<◌, ◌≤◌, Bool, true, false, not, ◌||◌, cond, List, [], ◌∷◌, ◌++◌, length, get_or, take, refl, sym, ap, ◌∙◌, subst, min, arith}
 use Rattle.std.specs.List.{AllByRecursion, list_any, filter, fold}
 use Rattle.std.proofs.lemmas.List.{take_all, length-take}
 use Rattle.std.proofs.lemmas.List.Folds.{list_any_more, list_any_at}
@@ -8,8 +8,8 @@ use Rattle.std.proofs.lemmas.List.Elements.{filter_more, All-get_or, All-from_re
 use Rattle.dt_bits.specs.declared.value.Width.{Width}
 use Rattle.dt_sets.specs.declared.Sets.{Sets}
 use Rattle.dt_sets.specs.Sets.{capacity, listed, listing, IsListing, IsSets}
-use Rattle.dt_sets.specs.Laws.Lists.{length-filter}
 use Rattle.dt_sets.specs.Laws.Form.{counted, few_is, listed_is, listing_is}
+use Rattle.std.proofs.lemmas.List.Filters.{length-filter_both}
 
 -- how many are listed
 pub count_is : (s : Sets) → IsSets s → s.many ≡ false → s.count ≡ length (listed s)
@@ -31,7 +31,7 @@ any_here p xs i x l e h = list_any_at p xs i 0 l (sym (ap p e) ∙ h)
 keep_long : (p : ℕ → Bool) (w : Width) (xs : List ℕ) (i : ℕ) (s : Sets) → s ≡ listing w (filter p (take i xs)) → s.count ≤ min i (length xs)
 keep_long p w xs i s e =
     let c : s.count ≡ length (filter p (take i xs)) = ap (λ (t : Sets). t.count) e in
-    let l = length-filter p (take i xs) in
+    let l = length-filter_both p (λ x. not (p x)) (λ x. refl) (take i xs) in
     omega (arith, c, l, length-take i xs)
 
 pub keep_form : (p : ℕ → Bool) (w : Width) (xs : List ℕ) (i : ℕ) (s : Sets) → length xs ≤ capacity → s ≡ listing w (filter p (take i xs)) → IsListing s

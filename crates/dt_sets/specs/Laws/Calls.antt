@@ -1,7 +1,7 @@
 -- Forward and backward make Sets of the right widths, and hold what they must.
 use Rattle.std.proofs.Common.{◌≡◌, ℕ, zero, suc, ◌*◌, ◌^◌, ◌<◌, Bool, true, false, not, ◌&&◌, ◌||◌, cond, eqb, ltb, leb, List, [], ◌∷◌, length, map, refl, sym, ap, ◌∙◌, subst, arith}
 use Rattle.std.specs.List.{AllByRecursion, filter, flat_map, list_any}
-use Rattle.std.proofs.lemmas.Bool.{cond_both, cond-true, cond-false, and_parts, and_from, or_from, lt-ltb, ltb-true, le-leb, eqb-true}
+use Rattle.std.proofs.lemmas.Bool.{cond_both, cond-true, cond-false, and_parts, and_from, or_from, lt-ltb, ltb-true, le-leb, eqb-true, not-true}
 use Rattle.std.proofs.lemmas.Nat.{pow_pos}
 use Rattle.dt_bits.specs.Bits.{IsWidth}
 use Rattle.dt_bits.specs.Ops.{arity_of, some_used}
@@ -105,16 +105,13 @@ none_of : (n : ℕ) (p q r : Bool) → (ltb 0 n && p || (ltb 1 n && q || ltb 2 n
     → (0 < n → p ≡ false) × (1 < n → q ≡ false) × (2 < n → r ≡ false)
 none_of n p q r h = (λ l. grind arith, λ l. grind arith, λ l. grind arith)
 
-turned : (b : Bool) → not b ≡ true → b ≡ false
-turned b h = grind arith
-
 pub none_pass : (op : Op) (p q r : Bool) → some_used op p q r ≡ false → NoneUsed op p q r
 none_pass op p q r h = let n = none_of (arity_of op) p q r h in record { first = n.0; second = n.1; third = n.2 }
 
 few_used : (op : Op) (a b c : Sets) → are_few op a b c ≡ true → NoneUsed op a.many b.many c.many
 few_used op a b c e =
     let p = and_parts (not (some_used op a.many b.many c.many)) (leb (length (numbers_at op 0 a) * length (numbers_at op 1 b) * length (numbers_at op 2 c)) most_selections) e in
-    none_pass op a.many b.many c.many (turned (some_used op a.many b.many c.many) p.0)
+    none_pass op a.many b.many c.many (not-true (some_used op a.many b.many c.many) p.0)
 
 gathered_has : (w : Width) (vs : List ℕ) (v : ℕ) → v < 2 ^ w.0 → has vs v ≡ true → sets_holds (gathered w (rising vs)) v ≡ true
 gathered_has w vs v l h = cond_both (leb (length (rising vs)) capacity) (listing w (rising vs)) (sets_full w) (λ s. sets_holds s v ≡ true)

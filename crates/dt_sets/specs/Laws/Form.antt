@@ -1,5 +1,5 @@
 -- The form of Sets: what is listed, that it is valid, and that it is told by the numbers that are held.
-use Rattle.std.proofs.Common.{◌≡◌, ℕ, ◌-◌, ◌^◌, ◌<◌, ◌≤◌, Bool, true, false, ltb, leb, ◌&&◌, List, [], ◌∷◌, length, replicate, refl, sym, ap, ◌∙◌, subst, ⊎_elim, arith, length-append}
+use Rattle.std.proofs.Common.{◌≡◌, ℕ, ◌-◌, ◌^◌, ◌<◌, ◌≤◌, Bool, true, false, not, ltb, leb, ◌&&◌, List, [], ◌∷◌, length, replicate, refl, sym, ap, ◌∙◌, subst, ⊎_elim, arith, length-append}
 use Rattle.std.specs.List.{AllByRecursion, filter}
 use Rattle.std.proofs.lemmas.Bool.{cond_both, cond-true, cond-false, cases_Bool, leb-true, leb-false, ltb-true, lt-ltb, false≢true}
 use Rattle.std.proofs.lemmas.List.{length-replicate}
@@ -11,7 +11,8 @@ use Rattle.dt_bits.specs.declared.value.Width.{Width}
 use Rattle.dt_sets.specs.declared.Sets.{Sets}
 use Rattle.dt_sets.specs.Lists.{IsRising, has, below}
 use Rattle.dt_sets.specs.Sets.{capacity, listing, everything, listed, IsListing, is_narrow, IsSets, sets_holds, HoldSame, IsCanonical, no_sets, sets_full, sets_one, kept, gathered}
-use Rattle.dt_sets.specs.Laws.Lists.{all_has, all-filter, rising-filter, length-filter, has-filter, has-below, all-below, rising-below, length-below, same_list}
+use Rattle.dt_sets.specs.Laws.Lists.{all_has, all-filter, rising-filter, has-filter, has-below, all-below, rising-below, length-below, same_list}
+use Rattle.std.proofs.lemmas.List.Filters.{length-filter_both}
 
 -- ---- listed numbers
 
@@ -92,7 +93,7 @@ areas s p = record { short = p.short; rises = p.rises; fits = p.fits }
 
 pub filter_listed : (q : ℕ → Bool) (w : Width) (xs : List ℕ) → AreListed w xs → AreListed w (filter q xs)
 filter_listed q w xs a = record {
-  short = let l = length-filter q xs in omega (arith, a.short);
+  short = let l = length-filter_both q (λ x. not (q x)) (λ x. refl) xs in omega (arith, a.short);
   rises = rising-filter q xs a.rises;
   fits = all-filter (λ x. x < 2 ^ w.0) q xs a.fits;
 }

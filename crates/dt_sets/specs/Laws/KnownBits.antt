@@ -1,7 +1,7 @@
 -- The bits that Sets know: those on which all listed numbers agree.
 use Rattle.std.proofs.Common.{◌≡◌, ℕ, ◌-◌, ◌^◌, ◌<◌, ◌≤◌, Bool, true, false, not, ◌&&◌, ◌||◌, eqb, List, [], ◌∷◌, length, bit_and, refl, sym, ap, ◌∙◌, subst, ⊎_elim, arith}
 use Rattle.std.specs.List.{AllByRecursion}
-use Rattle.std.proofs.lemmas.Bool.{and_parts, and_from, cases_Bool, cases_lt, eqb-true, false≢true, true≢false}
+use Rattle.std.proofs.lemmas.Bool.{and_parts, and_from, cases_Bool, cases_lt, eqb-true, false≢true, true≢false, or_right}
 use Rattle.std.proofs.lemmas.Nat.{pow_pos, and_le_l}
 use Rattle.std.proofs.Math.Nat.{pow-le-pow_right}
 use Rattle.dt_lemmas.proofs.Booleans.{and_alike, and_kept}
@@ -71,10 +71,7 @@ all_known w x xs i v l a =
 
 pub all_from_has : (P : ℕ → Type 0) (xs : List ℕ) → ((x : ℕ) → has xs x ≡ true → P x) → AllByRecursion P xs
 all_from_has P [] f = tt
-all_from_has P (y ∷ ys) f = (f y (here y ys), all_from_has P ys (λ x h. f x (behind (eqb y x) (has ys x) h)))
-  where
-    behind : (p q : Bool) → q ≡ true → (p || q) ≡ true
-    behind p q e = grind arith
+all_from_has P (y ∷ ys) f = (f y (here y ys), all_from_has P ys (λ x h. f x (or_right (eqb y x) (has ys x) h)))
 
 -- ---- numbers that are held
 

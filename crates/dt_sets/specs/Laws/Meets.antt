@@ -2,7 +2,7 @@
 use Rattle.std.proofs.Common.{◌≡◌, ℕ, ◌^◌, ◌<◌, Bool, true, false, not, ◌&&◌, ◌||◌, eqb, Some, List, [], ◌∷◌, length, take, bit_and, refl, sym, ap, ◌∙◌, subst, ◌⊎◌, inl, inr, ⊎_elim, arith}
 use Rattle.std.specs.Prelude.{MatchOption, ◌↔◌}
 use Rattle.std.specs.List.{filter}
-use Rattle.std.proofs.lemmas.Bool.{cond_both, cond-false, and_parts, and_from, cases_Bool, lt-ltb, eqb-true, eq-eqb, true≢false}
+use Rattle.std.proofs.lemmas.Bool.{cond_both, cond-false, and_parts, and_from, cases_Bool, lt-ltb, eqb-true, eq-eqb, true≢false, not-true}
 use Rattle.std.proofs.lemmas.Nat.{pow_pos}
 use Rattle.std.specs.Int.Bits.{and_zero_r}
 use Rattle.dt_bits.specs.Bits.{bit, differs}
@@ -23,10 +23,7 @@ use Rattle.dt_sets.specs.Laws.KnownBits.{agrees, knows_few, knows_held, held_kno
 pub empty_lists : (s : Sets) → sets_is_empty s ≡ true → (s.many ≡ false) × (listed s ≡ [])
 empty_lists s e =
     let p = and_parts (not s.many) (eqb s.count 0) e in
-    (turned s.many p.0, ap (λ n. take n s.numbers) (eqb-true s.count 0 p.1))
-  where
-    turned : (b : Bool) → not b ≡ true → b ≡ false
-    turned b h = grind arith
+    (not-true s.many p.0, ap (λ n. take n s.numbers) (eqb-true s.count 0 p.1))
 
 pub empty_holds : (s : Sets) (x : ℕ) → sets_is_empty s ≡ true → sets_holds s x ≡ false
 empty_holds s x e = let p = empty_lists s e in few_holds s x p.0 ∙ ap (λ xs. has xs x) p.1

@@ -1,7 +1,7 @@
 -- The Triple that lists given numbers: it is a Pair in normal form beside them, and holds these numbers.
-use Rattle.std.proofs.Common.{◌≡◌, ℕ, ◌/◌, ◌^◌, ◌<◌, ◌≤◌, Bool, true, false, ◌&&◌, ◌||◌, eqb, leb, List, [], ◌∷◌, bit_and, refl, sym, ap, ◌∙◌, arith}
+use Rattle.std.proofs.Common.{◌≡◌, ℕ, ◌/◌, ◌^◌, ◌<◌, ◌≤◌, Bool, true, false, ◌&&◌, eqb, leb, List, [], ◌∷◌, bit_and, refl, sym, ap, ◌∙◌, arith}
 use Rattle.std.specs.List.{AllByRecursion, filter}
-use Rattle.std.proofs.lemmas.Bool.{and_from, cond-true, eqb-true, eq-eqb, le-leb, le-ltb, false≢true, true≢false}
+use Rattle.std.proofs.lemmas.Bool.{and_from, cond-true, eqb-true, eq-eqb, le-leb, le-ltb, false≢true, true≢false, or_right}
 use Rattle.std.proofs.lemmas.Nat.{and_le_l}
 use Rattle.dt_lemmas.proofs.Powers.{quotient_between}
 use Rattle.dt_bits.specs.Bits.{IsWidth, bit}
@@ -28,10 +28,7 @@ use Rattle.dt_sets.specs.Laws.KnownBits.{mask_below, all_known, all_from_has, ag
 
 last_has : (x : ℕ) (xs : List ℕ) → has (x ∷ xs) (last x xs) ≡ true
 last_has x [] = here x []
-last_has x (y ∷ ys) = behind (eqb x (last y ys)) (has (y ∷ ys) (last y ys)) (last_has y ys)
-  where
-    behind : (p q : Bool) → q ≡ true → (p || q) ≡ true
-    behind p q e = grind arith
+last_has x (y ∷ ys) = or_right (eqb x (last y ys)) (has (y ∷ ys) (last y ys)) (last_has y ys)
 
 last_above : (x : ℕ) (xs : List ℕ) → IsRising (x ∷ xs) → AllByRecursion (λ y. y ≤ last x xs) (x ∷ xs)
 last_above x [] r = (omega arith, tt)
