@@ -32,8 +32,7 @@ fn log_of(draft: Draft, claim: Claim) -> Log
 /// failed. The record doesn't come where `limit` is `2^C - 1` or more, `C` being the number of bits of
 /// all choices.
 ///
-/// An aim that the proposer tells and that solves the problem is found, whatever the limit. After
-/// every answer, also after want of memory, the proposer may have changed, but not its aim.
+/// An aim that the proposer tells and that solves the problem is found, whatever the limit.
 pub fn search<D: Deciding, P: Proposer<D>>(
     alloc: Global,
     problem: &Problem,
