@@ -2,7 +2,7 @@ use crate::Bv;
 
 /// An operator on values. How many operands it has, where it fits them, the width of its result and
 /// its value stand in the table of `specs/Ops.antt`; results are modulo two to the result's width.
-#[derive(Clone, Copy, Debug, PartialEq, Eq)]
+#[derive(Clone, Copy, Debug, PartialEq, Eq, Hash)]
 pub enum Op {
     /// The value itself. No operand.
     Const { value: Bv },
