@@ -1,14 +1,2 @@
-//! The problem of a request list: a model and a list as terms of choices, and which of them must
-//! be 1.
-//!
-//! Proved, as laws over the definition of the problem: numbers for the choices that make each
-//! required term 1 tell an image that satisfies the list, and each image that satisfies gives such
-//! numbers; and a list within the limits has a problem, with room for all its terms. There is no code
-//! yet that builds the problem.
+//! The problem of a request list, and the image that a solution tells.
 #![tactic(auto)]
-
-mod faithful;
-
-pub use faithful::{
-    images_are_solutions, lists_are_problems, solutions_are_images, solutions_are_memories,
-};

@@ -1,0 +1,2 @@
+//! The claims of a list as required terms of a problem.
+#![tactic(auto)]

@@ -1,5 +1,0 @@
-use Rattle.dt_encode.proofs.Whole.{images_are_solutions}
-use Rattle.dt_encode.proofs.faithful.images_are_solutions.Goals as goal
-
-pub returns : goal.returns
-returns c = images_are_solutions

@@ -1,5 +1,0 @@
-use Rattle.dt_encode.proofs.Whole.{solutions_are_images}
-use Rattle.dt_encode.proofs.faithful.solutions_are_images.Goals as goal
-
-pub returns : goal.returns
-returns c = solutions_are_images

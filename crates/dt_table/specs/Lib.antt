@@ -1,0 +1,16 @@
+pub mod Apart
+pub mod Claims
+pub mod Demands
+pub mod Expressions
+pub mod Extras
+pub mod Faithful
+pub mod Images
+pub mod Kept
+pub mod Links
+pub mod Numbers
+pub mod Outs
+pub mod Passing
+pub mod Sizes
+pub mod Table
+pub mod Told
+pub mod Words

@@ -1,0 +1,2 @@
+//! The walks of a list's accesses as terms of a problem.
+#![tactic(auto)]
