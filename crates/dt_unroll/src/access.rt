@@ -7,6 +7,7 @@ use crate::frame::Frame;
 use crate::front::Front;
 use crate::layout::Layout;
 use crate::places::Places;
+use crate::positions::total;
 use crate::rules::require_access;
 use crate::walking::walk;
 use dt_bits::NoMemory;
@@ -51,7 +52,7 @@ fn walk_access(
         one: layout.one,
     };
     let nodes = m.nodes.as_slice();
-    let word = Layout::total(inputs, layout.inputs)?;
+    let word = total(inputs, layout.inputs)?;
     let front = Front::new(alloc, &frame, nodes.len(), word)?;
     walk(alloc, builder, &frame, front, nodes)
 }

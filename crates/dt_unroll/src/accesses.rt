@@ -6,6 +6,7 @@ ghost use Rattle.dt_unroll.specs.Building.{problem_of, built_of};
 
 use crate::access::build_access;
 use crate::layout::Layout;
+use crate::positions::position;
 use crate::rules::require_context;
 use dt_bits::NoMemory;
 use dt_build::Builder;
@@ -54,12 +55,12 @@ pub fn build_accesses(
     ensures outs { IfOk result (λ v. map (λ w. w.items) v.items ≡ (built (accepted_data model.now) requests.now).outs) }
 {
     let layout = Layout::new(model, requests)?;
-    let contexts = Layout::position(requests.contexts.len())?;
+    let contexts = position(requests.contexts.len())?;
     require_contexts(builder, model, &layout, contexts)?;
     let accesses = requests.accesses.as_slice();
     let mut all = Vec::with_capacity(alloc, accesses.len())?;
     for (k, wish) in accesses.iter().enumerate() {
-        let number = Layout::position(k)?;
+        let number = position(k)?;
         let outs = build_access(alloc, builder, model, requests, &layout, number, wish)?;
         all.push(outs)?;
     }

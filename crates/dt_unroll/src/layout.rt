@@ -1,3 +1,4 @@
+use crate::positions::{position, product, total};
 use dt_bits::NoMemory;
 use dt_model::{Accepted, Act, Node};
 use dt_request::Requests;
@@ -31,14 +32,14 @@ impl Layout {
         ensures { IfOk result (λ l. IsLayout (accepted_data model.now) requests.now l) }
     {
         let m = model.model();
-        let regs = Layout::position(m.regs.len())?;
-        let first = Layout::product(Layout::position(requests.contexts.len())?, regs)?;
-        let inputs = Layout::position(m.inputs.len())?;
-        let reads = Layout::position(Layout::reads_among(m.nodes.as_slice()))?;
-        let step = Layout::total(inputs, reads)?;
-        let own = Layout::product(Layout::position(requests.accesses.len())?, step)?;
-        let zero = Layout::total(first, own)?;
-        let one = Layout::total(zero, 1)?;
+        let regs = position(m.regs.len())?;
+        let first = product(position(requests.contexts.len())?, regs)?;
+        let inputs = position(m.inputs.len())?;
+        let reads = position(Layout::reads_among(m.nodes.as_slice()))?;
+        let step = total(inputs, reads)?;
+        let own = product(position(requests.accesses.len())?, step)?;
+        let zero = total(first, own)?;
+        let one = total(zero, 1)?;
         Ok(Layout {
             regs,
             first,
@@ -53,14 +54,14 @@ impl Layout {
     pub fn regs_at(&self, context: u32) -> Result<u32, NoMemory>
         ensures { IfOk result (λ t. t ≡ context * self.now.regs) }
     {
-        Layout::product(context, self.regs)
+        product(context, self.regs)
     }
 
     /// Where the inputs of an access stand.
     pub fn inputs_at(&self, access: u32) -> Result<u32, NoMemory>
         ensures { IfOk result (λ t. t ≡ self.now.first + access * self.now.step) }
     {
-        Layout::total(self.first, Layout::product(access, self.step)?)
+        total(self.first, product(access, self.step)?)
     }
 
     // How many of the nodes are reads.
@@ -75,26 +76,5 @@ impl Layout {
             }
         }
         count
-    }
-
-    /// The number, where it fits a position.
-    pub fn position(n: usize) -> Result<u32, NoMemory>
-        ensures { IfOk result (λ k. k ≡ n) }
-    {
-        u32::try_from(n).map_err(|_| NoMemory)
-    }
-
-    /// The sum, where it fits a position.
-    pub fn total(a: u32, b: u32) -> Result<u32, NoMemory>
-        ensures { IfOk result (λ k. k ≡ a + b) }
-    {
-        a.checked_add(b).ok_or(NoMemory)
-    }
-
-    // The product, where it fits a position.
-    fn product(a: u32, b: u32) -> Result<u32, NoMemory>
-        ensures { IfOk result (λ k. k ≡ a * b) }
-    {
-        a.checked_mul(b).ok_or(NoMemory)
     }
 }

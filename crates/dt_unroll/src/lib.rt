@@ -14,6 +14,7 @@ mod front;
 mod layout;
 mod node;
 mod places;
+mod positions;
 mod rules;
 mod walking;
 
