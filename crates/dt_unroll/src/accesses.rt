@@ -38,7 +38,7 @@ fn require_contexts(
 /// node, for each access.
 ///
 /// It takes time and memory for each operator of a context rule with each context, and for each
-/// operator, variable and node of the others with each access.
+/// variable, node and operator of the others with each access. The terms aren't copied.
 ///
 /// # Errors
 ///

@@ -4,8 +4,8 @@ use dt_model::{Accepted, Act, Node};
 use dt_request::Requests;
 
 /// Where the choices of a list stand: how many registers a context has, where the first access
-/// begins, how many inputs and how many choices an access has, and where the constants
-/// 0 and 1 of one bit stand.
+/// begins, how many inputs and how many choices an access has, and where the constants 0 and 1 of
+/// one bit stand.
 #[derive(Clone, Copy)]
 pub struct Layout {
     pub regs: u32,
