@@ -10,6 +10,11 @@ use std::alloc::Global;
 // How many places a walk goes through at most.
 const MOST_PLACES: u32 = 4096;
 
+// How many terms are compared by what walks from them come to, and at how many bits a walk is over.
+const MOST_TERMS: u32 = 20;
+
+const MANY_BITS: u32 = 48;
+
 // From which of the required terms that aren't 1 a walk begins.
 #[derive(Clone, Copy, Debug, PartialEq, Eq)]
 pub(crate) enum Rule {
@@ -17,6 +22,8 @@ pub(crate) enum Rule {
     Last,
     // The first one.
     First,
+    // The one of the last few from which a walk comes to the fewest bits of choices.
+    Fewest,
 }
 
 // A term, and the bits of it that would have to change.
@@ -24,6 +31,36 @@ pub(crate) enum Rule {
 struct Place {
     term: u32,
     bits: u128,
+}
+
+// What walks come to: how many bits of choices, and the highest bit of the choice of which most are
+// among them.
+#[derive(Clone, Copy, Debug, PartialEq, Eq)]
+struct Reach {
+    bits: u32,
+    most: u32,
+    at: Option<ChoiceBit>,
+}
+
+// What a walk came to that didn't begin.
+const NOWHERE: Reach = Reach {
+    bits: 0,
+    most: 0,
+    at: None,
+};
+
+// What is come to together with the bits of a choice, the highest of which is this one.
+fn with_choice(reach: Reach, count: u32, at: ChoiceBit) -> Reach {
+    let bits = reach.bits.saturating_add(count);
+    if count > reach.most {
+        Reach {
+            bits,
+            most: count,
+            at: Some(at),
+        }
+    } else {
+        Reach { bits, ..reach }
+    }
 }
 
 // A number whose bits are moved up, and what is past bit 127 left out.
@@ -217,65 +254,102 @@ impl Guide {
         }
     }
 
-    // Goes to a place: at a choice its highest bit is answered, at a node its operands are put off.
+    // Goes to a place: at a choice its bits are added, at a node its operands are put off.
     fn visit<D: Domain>(
         &mut self,
         problem: &Problem,
         cells: &Cells<D>,
         values: &[u128],
         place: Place,
-    ) -> Result<Option<ChoiceBit>, NoMemory>
+        reach: Reach,
+    ) -> Result<Reach, NoMemory>
         requires { AreCells D.ops problem.now.terms cells.now }
     {
         let bits = open_bits(problem, cells, values, place);
+        let term = place.term;
         if bits == 0 {
-            return Ok(None);
+            return Ok(reach);
         }
-        match problem.terms.get(place.term as usize) {
-            None => Ok(None),
-            Some(Term::Choice { .. }) => Ok(Some(ChoiceBit {
-                term: place.term,
-                bit: 127 - bits.leading_zeros().min(127),
-            })),
+        match problem.terms.get(term as usize) {
+            None => Ok(reach),
+            Some(Term::Choice { .. }) => {
+                let bit = 127 - bits.leading_zeros().min(127);
+                Ok(with_choice(reach, bits.count_ones(), ChoiceBit { term, bit }))
+            }
             Some(node) => {
-                self.push_operands(
-                    problem,
-                    values,
-                    *node,
-                    Place {
-                        term: place.term,
-                        bits,
-                    },
-                )?;
-                Ok(None)
+                self.push_operands(problem, values, *node, Place { term, bits })?;
+                Ok(reach)
             }
         }
     }
 
-    // The bit that a walk from this term comes to first, if it comes to one in time.
-    fn bit_below<D: Domain>(
+    // What a walk from this term comes to, until it has come to this many bits of choices.
+    fn walk<D: Domain>(
         &mut self,
         problem: &Problem,
         cells: &Cells<D>,
         values: &[u128],
         term: u32,
-    ) -> Result<Option<ChoiceBit>, NoMemory>
+        enough: u32,
+    ) -> Result<Reach, NoMemory>
         requires { AreCells D.ops problem.now.terms cells.now }
     {
         self.places.clear();
         self.push_one(term, 1)?;
+        let mut reach = NOWHERE;
         for _gone in 0..MOST_PLACES {
             match self.places.pop() {
-                None => return Ok(None),
+                None => return Ok(reach),
                 Some(place) => {
-                    let found = self.visit(problem, cells, values, place)?;
-                    if found.is_some() {
-                        return Ok(found);
+                    reach = self.visit(problem, cells, values, place, reach)?;
+                    if reach.bits >= enough {
+                        return Ok(reach);
                     }
                 }
             }
         }
-        Ok(None)
+        Ok(reach)
+    }
+
+    // The bit that the walk comes to from that of the last few failing terms from which it comes to
+    // the fewest bits.
+    fn fewest<D: Domain>(
+        &mut self,
+        problem: &Problem,
+        cells: &Cells<D>,
+        values: &[u128],
+    ) -> Result<Option<ChoiceBit>, NoMemory>
+        requires { AreCells D.ops problem.now.terms cells.now }
+    {
+        let mut left = MOST_TERMS;
+        let mut best = NOWHERE;
+        for term in problem.required.as_slice().iter().rev() {
+            if left == 0 {
+                return Ok(best.at);
+            }
+            if value_of(values, *term) != 1 {
+                left -= 1;
+                let reach = self.walk(problem, cells, values, *term, MANY_BITS)?;
+                best = fewer(best, reach);
+            }
+        }
+        Ok(best.at)
+    }
+
+    // The bit that the walk from a term comes to first.
+    fn first_below<D: Domain>(
+        &mut self,
+        problem: &Problem,
+        cells: &Cells<D>,
+        values: &[u128],
+        from: Option<u32>,
+    ) -> Result<Option<ChoiceBit>, NoMemory>
+        requires { AreCells D.ops problem.now.terms cells.now }
+    {
+        match from {
+            None => Ok(None),
+            Some(term) => Ok(self.walk(problem, cells, values, term, 1)?.at),
+        }
     }
 
     // A bit to split, where the values fail to solve the problem.
@@ -288,14 +362,26 @@ impl Guide {
         requires { AreCells D.ops problem.now.terms cells.now }
     {
         let required = problem.required.as_slice();
-        let failing = match self.rule {
-            Rule::Last => last_failing(required, values),
-            Rule::First => first_failing(required, values),
-        };
-        match failing {
-            None => Ok(None),
-            Some(term) => self.bit_below(problem, cells, values, term),
+        match self.rule {
+            Rule::Last => {
+                let from = last_failing(required, values);
+                self.first_below(problem, cells, values, from)
+            }
+            Rule::First => {
+                let from = first_failing(required, values);
+                self.first_below(problem, cells, values, from)
+            }
+            Rule::Fewest => self.fewest(problem, cells, values),
         }
+    }
+}
+
+// The one of two that came to fewer bits, but to some.
+fn fewer(best: Reach, other: Reach) -> Reach {
+    if best.bits == 0 || other.bits > 0 && other.bits < best.bits {
+        other
+    } else {
+        best
     }
 }
 

@@ -20,7 +20,7 @@ const FIRST_REACH: u64 = 400;
 const RISE: u64 = 8;
 
 // The rules by which attempts split, in turn.
-const RULES: [Rule; 2] = [Rule::Last, Rule::First];
+const RULES: [Rule; 3] = [Rule::Last, Rule::Fewest, Rule::First];
 
 // The log of a draft that is a tree.
 fn log_of(draft: Draft, claim: Claim) -> Log
