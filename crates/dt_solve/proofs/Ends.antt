@@ -26,9 +26,7 @@ use Rattle.dt_check.proofs.Bound.{root_required, record_bound, record_bound_all}
 use Rattle.dt_propagate.specs.Settling.{IsLogged}
 use Rattle.dt_propagate.proofs.Progress.{leads_hold}
 use Rattle.dt_solve.specs.Searching.{FollowsAt, IsRead, IsSearching}
-use Rattle.dt_solve.specs.declared.outcome.Outcome.{Outcome}
-use Rattle.dt_solve.specs.declared.outcome.Outcome.TheVariants.{Found, Refuted, Spent}
-use Rattle.dt_solve.specs.Outcomes.{IsRefuted, IsSpent, IsAnswer, IsEnded, FollowsAim}
+use Rattle.dt_solve.specs.Outcomes.{IsRefuted, IsSpent}
 use Rattle.dt_solve.specs.Untried.{AreUntried, without_tries}
 use Rattle.dt_solve.proofs.Untried.{bare, lines_bare, refutes_bare, bare_is_tree, are_untried}
 use Rattle.dt_solve.proofs.Moves.{required_leads, read_leads}
