@@ -1,16 +1,10 @@
-use Rattle.std.proofs.Common.{◌≡◌, ℕ, List, length, sym, ap, ◌∙◌, subst, arith}
+use Rattle.std.proofs.Common.{◌≡◌, length, sym, ap, ◌∙◌, subst, arith}
 use Rattle.dt_lemmas.proofs.Lists.{written}
 use Rattle.dt_terms.specs.Terms.{AreTerms}
 use Rattle.dt_terms.specs.Values.{IsAssignment}
 use Rattle.dt_check.specs.Trials.{HoldChoices}
 use Rattle.dt_solve.proofs.Held.{held_holds, held_fits}
-use Rattle.dt_solve.proofs.trial.Trial.try_numbers.Goals as goal
-
-pub eval-requires-clause-values : goal.eval-requires-clause-values
-eval-requires-clause-values g c =
-    let terms = c.args.problem.now.terms in
-    let right : AreTerms terms = subst (λ p. AreTerms p.terms) c.problem.view_is c.problem.invariant.0.terms in
-    subst (IsAssignment terms) (sym c.hold_all.ensures) (held_fits g.row.D.Denot g.D.Domain.ops g.met.D.Domain.laws terms right c.args.cells.now c.propose.new.out c.requires.cells c.requires.held)
+use Rattle.dt_solve.proofs.tried.Tried.ask.Goals as goal
 
 pub returns-clause-held : goal.returns-clause-held
 returns-clause-held g c =

@@ -1,8 +1,8 @@
-use Rattle.std.proofs.Common.{◌≡◌, length, arith}
+use Rattle.std.proofs.Common.{length, arith}
 use Rattle.dt_terms.specs.Terms.{choices_of}
 use Rattle.dt_check.specs.Records.{aimed}
 use Rattle.dt_solve.proofs.Numbers.{map_range}
-use Rattle.dt_solve.proofs.trial.hold_all.Goals as goal
+use Rattle.dt_solve.proofs.tried.hold_all.Goals as goal
 
 pub returns : goal.returns
 returns g c =

@@ -1,7 +1,7 @@
 use Rattle.std.proofs.Common.{◌≡◌, ◌<◌, ◌≤◌, ℕ, length, get_or}
 use Rattle.dt_terms.specs.Terms.{choices_of}
 use Rattle.dt_check.specs.Records.{aimed}
-use Rattle.dt_solve.proofs.trial.hold_all.Given as goal
+use Rattle.dt_solve.proofs.tried.hold_all.Given as goal
 
 abbrev pub invariant-loop-choice : goal.invariant-loop-choice
 invariant-loop-choice g l = record {
