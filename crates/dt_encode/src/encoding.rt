@@ -6,6 +6,7 @@ ghost use Rattle.dt_encode.specs.SizeFault.{size_fault};
 ghost use Rattle.dt_encode.specs.Encoding.{TellsImages, TakesImages, HasChoices};
 
 use crate::EncodeFault;
+use crate::building::build;
 use crate::sizes::size_fault;
 use dt_model::Accepted;
 use dt_request::Requests;
@@ -41,6 +42,6 @@ pub fn encode(
     if let Some(fault) = size_fault(model, requests) {
         return Err(fault);
     }
-    let _alloc = alloc;
-    Err(EncodeFault::Memory)
+    let encoded = build(alloc, model, requests)?;
+    Ok(encoded.problem)
 }
