@@ -7,5 +7,10 @@
 #![tactic(auto)]
 
 mod accesses;
+mod fork;
+mod frame;
+mod front;
+mod node;
+mod places;
 
 pub use accesses::build_accesses;
