@@ -1,5 +1,5 @@
 -- The choices of a list's problem are those of the list in order, and have as many bits.
-use Rattle.std.proofs.Common.{◌≡◌, ℕ, zero, suc, ◌+◌, ◌*◌, Bool, true, false, cond, List, [], ◌∷◌, ◌++◌, length, map, replicate, get_or, refl, sym, ap, ◌∙◌, arith, append_assoc, length-append}
+use Rattle.std.proofs.Common.{◌≡◌, ℕ, suc, ◌+◌, ◌*◌, Bool, true, false, cond, List, [], ◌∷◌, ◌++◌, length, map, replicate, refl, sym, ap, ◌∙◌, append_assoc, length-append}
 use Rattle.std.specs.Prelude.{filter, sum_by}
 use Rattle.std.specs.List.{flat_map, AllByRecursion}
 use Rattle.std.proofs.Math.Seq.{get_or-append_seam}
@@ -13,8 +13,7 @@ use Rattle.dt_request.specs.declared.list.Requests.{Requests}
 use Rattle.dt_request.specs.Choices.{read_nodes, widths_of, choice_bits}
 use Rattle.dt_terms.specs.declared.term.Term.{Term}
 use Rattle.dt_terms.specs.declared.term.Term.TheVariants.{Choice}
-use Rattle.dt_terms.specs.Terms.{width_of_term, is_choice, term_at, bits_at, choices_from, choices_of}
-use Rattle.dt_terms.specs.Problem.{ProblemData}
+use Rattle.dt_terms.specs.Terms.{width_of_term, is_choice, term_at, choices_from, choices_of}
 use Rattle.dt_table.specs.Table.{names_chosen, access_chosen, choices, table}
 use Rattle.dt_table.proofs.Extends.{AreChoices, are_choices, table_extends}
 use Rattle.dt_encode.specs.Encoding.{HasChoices}

@@ -6,3 +6,4 @@ pub mod PlacedWords
 pub mod Small
 pub mod Valued
 pub mod Widths
+pub mod Whole

@@ -1,10 +1,10 @@
 -- The words of the image that a solution tells lie at the cells of the reads that its accesses make.
-use Rattle.std.proofs.Common.{◌≡◌, ℕ, zero, suc, ◌+◌, Bool, true, false, ◌||◌, cond, eqb, ltb, List, [], ◌∷◌, ◌++◌, length, map, refl, sym, ap, ◌∙◌}
-use Rattle.std.specs.List.{list_any, flat_map}
+use Rattle.std.proofs.Common.{◌≡◌, ℕ, ◌+◌, Bool, true, false, ◌||◌, cond, eqb, ltb, List, [], ◌∷◌, map, refl, sym, ap, ◌∙◌}
+use Rattle.std.specs.List.{list_any}
 use Rattle.std.proofs.lemmas.Bool.{eqb-true}
 use Rattle.std.proofs.lemmas.List.Folds.{list_any-append}
 use Rattle.dt_bits.specs.declared.memory.Word.{Word}
-use Rattle.dt_bits.specs.Memory.{Memory}
+use Rattle.dt_bits.specs.Memory.{Memory, IsMemory}
 use Rattle.dt_model.specs.ModelData.{ModelData, ActData}
 use Rattle.dt_model.specs.Faults.{IsAccepted, HaveArities, steps}
 use Rattle.dt_request.specs.declared.list.AccessWish.{AccessWish}
@@ -12,7 +12,9 @@ use Rattle.dt_request.specs.declared.list.Requests.{Requests}
 use Rattle.dt_request.specs.Lists.{IsList}
 use Rattle.dt_walk.specs.Walks.{RunData, walk_of}
 use Rattle.dt_walk.specs.declared.run.ReadMade.{ReadMade}
-use Rattle.dt_satisfy.specs.Claims.{run_of, runs_of}
+use Rattle.dt_image.specs.declared.image.Image.{Image}
+use Rattle.dt_satisfy.specs.Claims.{run_of}
+use Rattle.dt_satisfy.specs.Satisfies.{Satisfies}
 use Rattle.dt_terms.specs.Values.{IsAssignment, solves}
 use Rattle.dt_forms.specs.Meaning.{Valuation, values}
 use Rattle.dt_forms.proofs.Real.{lawful_values}
@@ -27,6 +29,7 @@ use Rattle.dt_table.proofs.Accepted.{ready_from}
 use Rattle.dt_table.proofs.FineTable.{table_terms}
 use Rattle.dt_table.proofs.Satisfying.{solving_from}
 use Rattle.dt_table.proofs.Theorem.{values_range, ones_of}
+use Rattle.dt_table.proofs.Whole.{to_image, to_memory}
 use Rattle.dt_encode.specs.ReadWords.{is_listed, is_read, ListsReads}
 
 -- ---- words of reads
@@ -84,3 +87,17 @@ told_lists d r numbers a h list i s b =
     words_listed (reads_told v (steps d) oss) b
     ∙ reads_any v (steps d) oss b
     ∙ ap (λ (runs : List RunData). is_read runs b) (sym (runs_told v d r (image_told v d r).memory 0 r.accesses oss all.given.contexts all.walks))
+
+-- what holds of the image that a solution tells
+pub record Holds (d : ModelData) (r : Requests) (i : Image) : Type 0 where
+  pub satisfies : Satisfies d r i
+  pub memory : IsMemory i.memory
+  pub words : ListsReads d i
+
+pub told_holds : (d : ModelData) (r : Requests) (numbers : List ℕ) → IsAccepted d → HaveArities d → IsList d r → IsAssignment (table d r).terms numbers → solves (table d r) numbers ≡ true
+    → Holds d r (image_told (values (table d r).terms numbers) d r)
+told_holds d r numbers a h list i s = record {
+  satisfies = to_image d r numbers a h list i s;
+  memory = to_memory d r numbers a h list i s;
+  words = told_lists d r numbers a h list i s;
+}

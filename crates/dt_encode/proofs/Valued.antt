@@ -1,7 +1,6 @@
 -- What values tell depends on their numbers alone, and not on their widths.
 use Rattle.std.proofs.Common.{◌≡◌, ℕ, zero, suc, ◌+◌, ◌-◌, ◌<◌, cond, List, [], ◌∷◌, ◌++◌, length, drop, get_or, refl, sym, ap, ◌∙◌, arith, append_assoc, add-one, drop-cons}
 use Rattle.dt_lemmas.proofs.Lists.{element}
-use Rattle.std.specs.Prelude.{slice_index}
 use Rattle.dt_bits.specs.Bits.{width}
 use Rattle.dt_model.specs.declared.model.Named.{Named}
 use Rattle.dt_model.specs.ModelData.{ModelData, ActData, bind, read, branch, fault, done}

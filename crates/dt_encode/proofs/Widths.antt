@@ -1,8 +1,8 @@
 -- The widths of a list's choices are widths, and the choices of these widths are the list's.
-use Rattle.std.proofs.Common.{◌≡◌, ℕ, zero, suc, List, [], ◌∷◌, ◌++◌, map, replicate, ⊎_elim, refl, ap, ◌∙◌, arith}
+use Rattle.std.proofs.Common.{◌≡◌, ℕ, zero, suc, ◌+◌, ◌<◌, List, [], ◌∷◌, ◌++◌, length, take, get_or, map, replicate, ⊎_elim, refl, ap, ◌∙◌, arith}
 use Rattle.std.specs.List.{flat_map, AllByRecursion}
 use Rattle.std.proofs.lemmas.List.{map-append}
-use Rattle.dt_lemmas.proofs.Lists.{AllByRecursion-append}
+use Rattle.dt_lemmas.proofs.Lists.{AllByRecursion-append, element, flat_pushed}
 use Rattle.dt_bits.specs.Bits.{IsWidth, width}
 use Rattle.dt_bits.specs.declared.value.Width.{Width}
 use Rattle.dt_model.specs.declared.model.Named.{Named}
@@ -78,3 +78,15 @@ widths_fit d r a =
     AllByRecursion-append (λ (w : Width). IsWidth w.0) (flat_map (λ _. name_widths d.regs) r.contexts) (flat_map (λ _. access_widths d) r.accesses)
     (repeated_fit (name_widths d.regs) r.contexts (names_fit d.regs (reg_widths d a)))
     (repeated_fit (access_widths d) r.accesses (AllByRecursion-append (λ (w : Width). IsWidth w.0) (name_widths d.inputs) (replicate (read_nodes d) (width d.word)) (names_fit d.inputs (input_widths d a)) (words_fit (read_nodes d) d.word (word_fits d a))))
+
+-- ---- a list that is put once for each element
+
+pub repeated_pushed : {X A : Type 0} (ys before now next : List A) (xs : List X) (i : ℕ) → i < length xs → now ≡ before ++ flat_map (λ _. ys) (take i xs) → next ≡ now ++ ys → next ≡ before ++ flat_map (λ _. ys) (take (i + 1) xs)
+repeated_pushed {X} ys before now next xs i l e f =
+    let x = element xs i l in
+    flat_pushed (λ (_ : X). ys) before now next xs i (get_or xs i x.0) l (get_same xs i x.0 l) e f
+  where
+    get_same : (zs : List X) (k : ℕ) (d : X) → k < length zs → get_or zs k d ≡ get_or zs k (get_or zs k d)
+    get_same [] k d m = absurd (omega (arith, m))
+    get_same (z ∷ zs) zero d m = refl
+    get_same (z ∷ zs) (suc k) d m = get_same zs k d (omega (arith, m))

@@ -1,5 +1,5 @@
 -- Values of terms as the code has them, and the reads that they tell.
-use Rattle.std.specs.Prelude.{ℕ, Bool, ◌&&◌, if◌then◌else◌, List, [], ◌∷◌, slice_index}
+use Rattle.std.specs.Prelude.{ℕ, ◌&&◌, if◌then◌else◌, List, [], ◌∷◌, slice_index}
 use Rattle.dt_bits.specs.Bits.{width}
 use Rattle.dt_model.specs.ModelData.{ActData}
 use Rattle.dt_model.specs.Faults.{is_read}

@@ -4,9 +4,9 @@ ghost use Rattle.dt_request.specs.Lists.{IsList};
 ghost use Rattle.dt_table.specs.Table.{table, built};
 
 use crate::choices::choice_widths;
-use crate::pending::require_claims;
 use dt_bits::{NoMemory, Width};
 use dt_build::Builder;
+use dt_claims::require_claims;
 use dt_model::Accepted;
 use dt_request::Requests;
 use dt_table::Out;

@@ -24,11 +24,7 @@ use std::alloc::Global;
 ///
 /// `TooLarge` exactly where a product is above its limit: the first in the order of reads, dones and
 /// terms, with the product. `Memory` where memory ran out.
-pub fn encode(
-    alloc: Global,
-    model: &Accepted,
-    requests: &Requests,
-) -> Result<Problem, EncodeFault>
+pub fn encode(alloc: Global, model: &Accepted, requests: &Requests) -> Result<Problem, EncodeFault>
     requires { IsList (accepted_data model.now) requests.now }
     ensures problem { IfOk result (λ p. p ≡ table (accepted_data model.now) requests.now) }
     ensures tells { IfOk result (TellsImages (accepted_data model.now) requests.now) }

@@ -19,7 +19,6 @@ mod choices;
 mod encoding;
 mod fault;
 mod names;
-mod pending;
 mod reads;
 mod sizes;
 mod telling;

@@ -79,10 +79,11 @@ pub fn accesses_told(
         requests.now.accesses) }
 {
     let inputs = model.model().inputs.as_slice();
+    let wishes = requests.accesses.as_slice();
     let first = first_access(model, requests);
     let size = access_size(model);
     let mut accesses = Seq::new(alloc);
-    for (k, wish) in requests.accesses.iter().enumerate() {
+    for (k, wish) in wishes.iter().enumerate() {
         accesses.push(ImageAccess {
             context: wish.context,
             inputs: name_values(alloc, values, first + k * size, inputs)?,

@@ -13,7 +13,9 @@ use dt_model::{Accepted, Act, Expr, Node};
 use dt_request::Requests;
 
 const MOST_READS: u64 = 256;
+
 const MOST_DONES: u64 = 512;
+
 const MOST_TERMS: u64 = 200_000;
 
 fn operators(e: &Expr) -> u64

@@ -38,8 +38,7 @@ pub fn image_of(
     numbers: &[u128],
 ) -> Result<Image, NoMemory>
     requires list { IsList (accepted_data model.now) requests.now }
-    requires assignment {
-        IsAssignment (table (accepted_data model.now) requests.now).terms numbers.now }
+    requires assignment { IsAssignment (table (accepted_data model.now) requests.now).terms numbers.now }
     requires solves { solves (table (accepted_data model.now) requests.now) numbers.now ≡ true }
     ensures image { let d = accepted_data model.now in IfOk result (λ image. image
         ≡ image_told (values (table d requests.now).terms numbers.now) d requests.now) }

@@ -1,4 +1,4 @@
-use Rattle.std.proofs.Common.{◌≡◌, ◌+◌, ◌++◌, List, ℕ, drop, sym, ap, ◌∙◌}
+use Rattle.std.proofs.Common.{◌+◌, ◌++◌, List, ℕ, drop, sym, ap, ◌∙◌}
 use Rattle.dt_table.specs.Images.{bits_from}
 use Rattle.dt_encode.specs.Telling.{valued}
 use Rattle.dt_encode.proofs.Valued.{bits_more}
