@@ -149,9 +149,7 @@ pub fn pass(
     ensures { IfOk result (λ out. Passes (access_data frame.now) at (act_of act.now) builder.old front.old builder.new front.new out) }
 {
     match act {
-        Act::Let { var, value, next } => {
-            pass_let(builder, frame, front, at, *var, value, *next)
-        }
+        Act::Let { var, value, next } => { pass_let(builder, frame, front, at, *var, value, *next) }
         Act::Read {
             var,
             cell,
