@@ -27,3 +27,7 @@ turn {X} all one each p q whole xs i d l e h =
 pub turned : {X : Type 0} (all : List X → List Form) → all [] ≡ [] → (p whole : ProblemData) (xs : List X) (i : ℕ) → length xs ≤ i → demanded p (all (drop i xs)) ≡ whole → p ≡ whole
 turned {X} all none p whole xs i l h =
     sym (demanded_none p) ∙ ap (demanded p) (sym none) ∙ ap (λ (ys : List X). demanded p (all ys)) (sym (drop_all i xs l)) ∙ h
+
+-- forms that are required behind others
+pub both_required : (p q r : ProblemData) (fs gs : List Form) → q ≡ demanded p fs → r ≡ demanded q gs → r ≡ demanded p (fs ++ gs)
+both_required p q r fs gs e f = f ∙ ap (λ (s : ProblemData). demanded s gs) e ∙ sym (demanded_parts p fs gs)

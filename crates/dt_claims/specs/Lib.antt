@@ -1,3 +1,4 @@
 pub mod Endings
 pub mod Steps
+pub mod Tests
 pub mod Views

@@ -1,5 +1,6 @@
 ghost use Rattle.std.specs.Prelude.{◌≡◌, OnOk};
-ghost use Rattle.dt_model.specs.ModelData.{act_of};
+ghost use Rattle.dt_model.specs.ModelData.{act_of, data_of};
+ghost use Rattle.dt_model.specs.Faults.{steps};
 ghost use Rattle.dt_model.specs.Flow.{steps_of};
 ghost use Rattle.dt_build.specs.Building.{demanded};
 ghost use Rattle.dt_table.specs.Claims.{is_end, ends_only};
@@ -8,7 +9,7 @@ ghost use Rattle.dt_claims.specs.Steps.{end_forms};
 
 use dt_bits::NoMemory;
 use dt_build::Builder;
-use dt_model::{Act, Node};
+use dt_model::{Act, Model, Node};
 use dt_table::Out;
 
 /// How a walk is asked to end.
@@ -56,8 +57,8 @@ fn require_end(
     Ok(())
 }
 
-/// Requires that the walk comes to no end but those that pass.
-pub(crate) fn require_ends(
+// The walk comes to no end among these nodes but those that pass.
+fn require_ends_among(
     builder: &mut Builder,
     ending: Ending,
     nodes: &[Node],
@@ -69,4 +70,16 @@ pub(crate) fn require_ends(
         require_end(builder, ending, &node.act, *out)?;
     }
     Ok(())
+}
+
+/// Requires that the walk comes to no end but those that pass.
+pub(crate) fn require_ends(
+    builder: &mut Builder,
+    ending: Ending,
+    model: &Model,
+    outs: &[Out],
+) -> Result<(), NoMemory>
+    ensures { OnOk result (builder.new ≡ demanded builder.old (ends_only (passes ending) (steps (data_of model.now)) outs.now)) }
+{
+    require_ends_among(builder, ending, model.nodes.as_slice(), outs)
 }

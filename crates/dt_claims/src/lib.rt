@@ -5,9 +5,12 @@ mod apart;
 mod claims;
 mod ends;
 mod kept;
+mod outs;
 mod pairs;
 mod places;
 mod sized;
 mod terms;
+mod tests;
+mod widths;
 
 pub use claims::require_claims;
