@@ -102,3 +102,7 @@ nothing_left old rest whole e h = sym (append-nil old) ∙ ap (λ l. old ++ l) (
 -- nothing is left to require
 pub none_required : (p whole : ProblemData) (fs : List Form) → fs ≡ [] → demanded p fs ≡ whole → p ≡ whole
 none_required p whole fs e h = sym (demanded_none p) ∙ ap (demanded p) (sym e) ∙ h
+
+-- a list that begins without elements
+pub collected : {A B : Type 0} (f : A → B) (xs made none : List A) (whole : List B) → xs ≡ made → map f made ≡ map f none ++ whole → none ≡ [] → map f xs ≡ whole
+collected {B} f xs made none whole e h n = ap (map f) e ∙ h ∙ ap (λ l. map f l ++ whole) n

@@ -3,8 +3,10 @@
 
 mod apart;
 mod claims;
+mod demands;
 mod ends;
 mod kept;
+mod links;
 mod outs;
 mod pairs;
 mod places;
