@@ -1,0 +1,5 @@
+pub mod Endings
+pub mod Relations
+pub mod Steps
+pub mod Tests
+pub mod Views
