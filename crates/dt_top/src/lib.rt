@@ -25,20 +25,21 @@ mod models;
 mod pieces;
 mod program;
 mod reading;
-mod record;
 mod reply;
 mod stages;
 mod status;
 mod words;
-mod zeros;
 
 pub use commands::{
-    Job, ModelJob, ReplayJob, SolveJob, WalkJob, image_reply, print_reply, solve_reply, walk_reply,
+    CheckJob, Job, ModelJob, ReplayJob, SolveJob, WalkJob, image_reply, log_reply, print_reply,
+    solve_reply, walk_reply,
 };
 pub use file::File;
 pub use in_memory::run_in_memory;
 pub use models::{ModelWord, Shipped};
 pub use program::run;
 pub use reply::{Reply, Text};
-pub use stages::{accepted_model, matching_image, model_image, request_list};
+pub use stages::{
+    accepted_model, list_problem, matching_image, model_image, problem_log, request_list,
+};
 pub use status::Status;
