@@ -1,5 +1,5 @@
 -- How many read nodes, done nodes and operators an accepted model has at most, and these numbers seen by the nodes and rules themselves.
-use Rattle.std.proofs.Common.{◌≡◌, ℕ, ◌+◌, ◌-◌, ◌≤◌, Bool, List, length, map, take, ap, ◌∙◌, subst, arith}
+use Rattle.std.proofs.Common.{◌≡◌, ℕ, ◌+◌, ◌-◌, ◌≤◌, Bool, List, length, map, take, subst, arith}
 use Rattle.std.specs.Prelude.{count_by, sum_by, if◌then◌else◌}
 use Rattle.std.proofs.lemmas.Bool.{or_parts, ltb-false, false_from_ne_true}
 use Rattle.std.proofs.lemmas.List.{take_all}

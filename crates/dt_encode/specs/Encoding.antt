@@ -1,5 +1,5 @@
 -- What makes a problem that of a list.
-use Rattle.std.specs.Prelude.{◌≡◌, ℕ, true, List, map, sum}
+use Rattle.std.specs.Prelude.{◌≡◌, ℕ, true, List, map, sum_by}
 use Rattle.dt_bits.specs.Memory.{Fit}
 use Rattle.dt_model.specs.ModelData.{ModelData}
 use Rattle.dt_request.specs.declared.list.Requests.{Requests}
@@ -25,4 +25,4 @@ TakesImages d r p = (i : Image) → Fit i.memory.bytes i.memory.words → Satisf
 -- the choices are those of the list in order, and have as many bits
 pub record HasChoices (d : ModelData) (r : Requests) (p : ProblemData) : Type 0 where
   pub choices : map (term_at p.terms) (choices_of p.terms) ≡ choices d r
-  pub bits : sum (map (bits_at p.terms) (choices_of p.terms)) ≡ choice_bits d r
+  pub bits : sum_by (bits_at p.terms) (choices_of p.terms) ≡ choice_bits d r

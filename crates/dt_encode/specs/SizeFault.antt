@@ -1,5 +1,5 @@
 -- Why a list is too large to have a problem: the first product above its limit.
-use Rattle.std.specs.Prelude.{ℕ, nat_lt, if◌then◌else◌, Option, Some, None}
+use Rattle.std.specs.Prelude.{nat_lt, if◌then◌else◌, Option, Some, None}
 use Rattle.dt_model.specs.ModelData.{ModelData}
 use Rattle.dt_request.specs.declared.list.Requests.{Requests}
 use Rattle.dt_table.specs.Sizes.{read_product, done_product, term_product, most_read_product, most_done_product, most_term_product}

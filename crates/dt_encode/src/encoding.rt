@@ -6,6 +6,7 @@ ghost use Rattle.dt_encode.specs.SizeFault.{size_fault};
 ghost use Rattle.dt_encode.specs.Encoding.{TellsImages, TakesImages, HasChoices};
 
 use crate::EncodeFault;
+use crate::building::build;
 use crate::sizes::size_fault;
 use dt_model::Accepted;
 use dt_request::Requests;
@@ -23,11 +24,7 @@ use std::alloc::Global;
 ///
 /// `TooLarge` exactly where a product is above its limit: the first in the order of reads, dones and
 /// terms, with the product. `Memory` where memory ran out.
-pub fn encode(
-    alloc: Global,
-    model: &Accepted,
-    requests: &Requests,
-) -> Result<Problem, EncodeFault>
+pub fn encode(alloc: Global, model: &Accepted, requests: &Requests) -> Result<Problem, EncodeFault>
     requires { IsList (accepted_data model.now) requests.now }
     ensures problem { IfOk result (λ p. p ≡ table (accepted_data model.now) requests.now) }
     ensures tells { IfOk result (TellsImages (accepted_data model.now) requests.now) }
@@ -41,6 +38,6 @@ pub fn encode(
     if let Some(fault) = size_fault(model, requests) {
         return Err(fault);
     }
-    let _alloc = alloc;
-    Err(EncodeFault::Memory)
+    let encoded = build(alloc, model, requests)?;
+    Ok(encoded.problem)
 }

@@ -23,10 +23,7 @@ pub enum EncodeFault {
     /// Memory ran out.
     Memory,
     /// The product is above its limit: the first of reads, dones and terms that is.
-    TooLarge {
-        what: Quantity3,
-        number: u64,
-    },
+    TooLarge { what: Quantity3, number: u64 },
 }
 
 impl Display for Quantity3 {

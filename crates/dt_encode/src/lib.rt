@@ -14,10 +14,16 @@
 //! Not proved: that the calls succeed where there is memory.
 #![tactic(auto)]
 
+mod building;
+mod choices;
 mod encoding;
 mod fault;
+mod names;
+mod reads;
 mod sizes;
 mod telling;
+mod values;
+mod words;
 
 pub use encoding::encode;
 pub use fault::{EncodeFault, Quantity3};

@@ -13,7 +13,9 @@ use dt_model::{Accepted, Act, Expr, Node};
 use dt_request::Requests;
 
 const MOST_READS: u64 = 256;
+
 const MOST_DONES: u64 = 512;
+
 const MOST_TERMS: u64 = 200_000;
 
 fn operators(e: &Expr) -> u64
@@ -76,7 +78,8 @@ fn model_operators(model: &Accepted) -> u64
         + node_operators(m.nodes.as_slice())
 }
 
-fn is_read(act: &Act) -> bool
+/// Whether a node reads.
+pub fn is_read(act: &Act) -> bool
     ensures { result ≡ is_read (act_of act.now) }
 {
     matches!(act, Act::Read { .. })
@@ -88,19 +91,34 @@ fn is_done(act: &Act) -> bool
     matches!(act, Act::Done { .. })
 }
 
+#[tactic(auto, using(std::proofs::lemmas::List::Sums::count_by_more_yes, std::proofs::lemmas::List::Sums::count_by_more_no))]
 fn reads_among(nodes: &[Node]) -> u64
     ensures { result ≡ count_by (λ n. is_read (act_of n.act)) nodes.now }
 {
-    nodes.iter().filter(|node| is_read(&node.act)).count() as u64
+    let mut count = 0;
+    for node in nodes {
+        if is_read(&node.act) {
+            count += 1;
+        }
+    }
+    count
 }
 
+#[tactic(auto, using(std::proofs::lemmas::List::Sums::count_by_more_yes, std::proofs::lemmas::List::Sums::count_by_more_no))]
 fn dones_among(nodes: &[Node]) -> u64
     ensures { result ≡ count_by (λ n. is_done (act_of n.act)) nodes.now }
 {
-    nodes.iter().filter(|node| is_done(&node.act)).count() as u64
+    let mut count = 0;
+    for node in nodes {
+        if is_done(&node.act) {
+            count += 1;
+        }
+    }
+    count
 }
 
-fn read_nodes(model: &Accepted) -> u64
+/// How many read nodes a model has.
+pub fn read_nodes(model: &Accepted) -> u64
     ensures value { result ≡ read_nodes (accepted_data model.now) }
     ensures few { result ≤ 64 }
 {

@@ -10,9 +10,14 @@ ghost use Rattle.dt_table.specs.Images.{image_told};
 ghost use Rattle.dt_table.specs.Table.{table};
 ghost use Rattle.dt_encode.specs.ReadWords.{ListsReads};
 
-use dt_bits::NoMemory;
+use crate::building::build;
+use crate::names::{accesses_told, contexts_told};
+use crate::reads::all_reads;
+use crate::values::term_values;
+use crate::words::words_of;
+use dt_bits::{NoMemory, Seq, TableMemory};
 use dt_image::Image;
-use dt_model::Accepted;
+use dt_model::{Accepted, word_bytes};
 use dt_request::Requests;
 use std::alloc::Global;
 
@@ -33,8 +38,7 @@ pub fn image_of(
     numbers: &[u128],
 ) -> Result<Image, NoMemory>
     requires list { IsList (accepted_data model.now) requests.now }
-    requires assignment {
-        IsAssignment (table (accepted_data model.now) requests.now).terms numbers.now }
+    requires assignment { IsAssignment (table (accepted_data model.now) requests.now).terms numbers.now }
     requires solves { solves (table (accepted_data model.now) requests.now) numbers.now ≡ true }
     ensures image { let d = accepted_data model.now in IfOk result (λ image. image
         ≡ image_told (values (table d requests.now).terms numbers.now) d requests.now) }
@@ -44,9 +48,23 @@ pub fn image_of(
     ensures memory { IfOk result (λ image. IsMemory image.memory) }
     ensures words { IfOk result (ListsReads (accepted_data model.now)) }
 {
-    let _alloc = alloc;
-    let _model = model;
-    let _requests = requests;
-    let _numbers = numbers;
-    Err(NoMemory)
+    let encoded = build(alloc, model, requests)?;
+    let values = term_values(alloc, &encoded.problem, numbers)?;
+    let values = values.as_slice();
+    let nodes = model.model().nodes.as_slice();
+    let reads = all_reads(alloc, nodes, encoded.outs.as_slice(), values)?;
+    let words = words_of(alloc, reads)?;
+    let contexts = contexts_told(alloc, model, values, requests.contexts.len())?;
+    let accesses = accesses_told(alloc, model, requests, values)?;
+    let memory = TableMemory {
+        bytes: word_bytes(model),
+        lo: requests.lo,
+        hi: requests.hi,
+        words: Seq::from_vec(words),
+    };
+    Ok(Image {
+        memory,
+        contexts,
+        accesses,
+    })
 }
