@@ -10,7 +10,6 @@ use Rattle.dt_request.specs.declared.fault.RequestFault.{RequestFault}
 use Rattle.dt_request.specs.declared.list.Requests.{Requests}
 use Rattle.dt_request.specs.Fault.{line_of as list_line, word_of as list_word}
 use Rattle.dt_request.specs.Read.{reading as list_in}
-use Rattle.dt_encode.specs.declared.fault.EncodeFault.{EncodeFault}
 use Rattle.dt_encode.specs.declared.fault.EncodeFault.TheVariants.{TooLarge}
 use Rattle.dt_lemmas.proofs.Options.{some_is}
 use Rattle.dt_top.specs.Course.{FileRead, Outcome, answers, needs, Answered, OnFile}

@@ -1,7 +1,7 @@
 -- What the stages of a command come to.
 use Rattle.std.proofs.Common.{◌≡◌, ℕ, ◌+◌, inl, inr, false, not, List, [], ◌∷◌, ◌++◌, Option, Some, None, Ok, Err, refl, sym, ap, subst, ◌∙◌, append_assoc}
 use Rattle.std.specs.Prelude.{position, codes}
-use Rattle.dt_edge.specs.Told.{Told, Has, Asks}
+use Rattle.dt_edge.specs.Told.{Told, Asks}
 use Rattle.dt_model.specs.ModelData.{ModelData}
 use Rattle.dt_modeltext.specs.declared.fault.ModelFault.{ModelFault}
 use Rattle.dt_modeltext.specs.declared.fault.ModelFault.TheVariants as model

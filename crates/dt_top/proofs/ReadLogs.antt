@@ -1,7 +1,6 @@
 -- A log that a text spells is one tree, and has no more items than the text has bytes.
-use Rattle.std.proofs.Common.{◌≡◌, ℕ, ◌+◌, ◌*◌, ◌<◌, ◌≤◌, Bool, true, false, cond, eqb, List, [], ◌∷◌, ◌++◌, length, length-append, Option, Some, None, Result, Ok, Err, refl, sym, ap, subst, ◌∙◌, arith}
+use Rattle.std.proofs.Common.{◌≡◌, ℕ, ◌+◌, ◌<◌, ◌≤◌, Bool, true, false, cond, eqb, List, [], ◌∷◌, ◌++◌, length, length-append, Option, Some, None, Result, Ok, Err, refl, ap, arith}
 use Rattle.std.specs.Prelude.{IfOk}
-use Rattle.std.specs.List.{flat_map}
 use Rattle.std.specs.Option.{option_to_list}
 use Rattle.dt_lemmas.proofs.Lists.{length_flat}
 use Rattle.dt_lemmas.proofs.Options.{at_ok}
@@ -15,7 +14,7 @@ use Rattle.dt_log.specs.declared.fault.LogFault.{LogFault}
 use Rattle.dt_log.specs.declared.line.Line.{Line}
 use Rattle.dt_log.specs.declared.written.Written.{Written}
 use Rattle.dt_log.specs.Entry.{sections}
-use Rattle.dt_log.specs.Shapes.{is_tree, first_wrong, goes, shape}
+use Rattle.dt_log.specs.Shapes.{is_tree, goes, shape}
 use Rattle.dt_log.specs.Written.{items_in, declared}
 use Rattle.dt_log.specs.Read.{LogData, grammar, unless_wrong, finished, reading}
 use Rattle.dt_top.proofs.Ended.{if_ok}

@@ -1,9 +1,8 @@
 -- What a search found on the problem of a list, as texts that are printed.
-use Rattle.std.proofs.Common.{◌≡◌, ℕ, ◌+◌, ◌^◌, ◌≤◌, List, [], ◌∷◌, map, Ok, refl, sym, ap, subst, ◌∙◌}
-use Rattle.std.specs.Prelude.{sum, sum_by}
-use Rattle.std.proofs.lemmas.List.Sums.{sum-map, sum_by-cons}
+use Rattle.std.proofs.Common.{◌≡◌, ℕ, ◌+◌, ◌^◌, ◌≤◌, List, [], ◌∷◌, Ok, refl, sym, ap, subst, ◌∙◌}
+use Rattle.std.specs.Prelude.{sum_by}
+use Rattle.std.proofs.lemmas.List.Sums.{sum_by-cons}
 use Rattle.dt_model.specs.ModelData.{ModelData}
-use Rattle.dt_request.specs.Choices.{choice_bits}
 use Rattle.dt_request.specs.declared.list.Requests.{Requests}
 use Rattle.dt_terms.specs.declared.term.Term.{Term}
 use Rattle.dt_terms.specs.Problem.{ProblemData, IsProblem}
@@ -42,14 +41,11 @@ unfolding bits_of_choices
 bits_by terms [] = refl
 bits_by terms (t ∷ ts) = ap (λ (n : ℕ). bits_at terms t + n) (bits_by terms ts) ∙ sym (sum_by-cons (bits_at terms) t ts)
 
-bits_sum : (terms : List Term) (ts : List ℕ) → bits_of_choices terms ts ≡ sum (map (bits_at terms) ts)
-bits_sum terms ts = bits_by terms ts ∙ sym (sum-map (bits_at terms) ts)
-
 pub recorded_text : (d : ModelData) (list : Requests) (p : ProblemData) → p ≡ table d list → HasChoices d list p → (splits : ℕ) (claim : Claim) (lines : List Line) (text : List ℕ)
     → IsSpent pair_ops p splits claim lines → text ≡ printed (claim, lines) → reading text ≡ Ok (claim, lines) → IsRecord d list splits text
 recorded_text d list p is choices splits claim lines text s spelled back = record {
   log = (claim, lines);
   text_is = record { spelled = spelled; reads_back = back };
   spent = subst (λ (q : ProblemData). IsSpent pair_ops q splits claim lines) is s;
-  few = subst (λ (n : ℕ). splits + 2 ≤ 2 ^ n) (bits_sum p.terms (choices_of p.terms) ∙ choices.bits) s.few_in_all;
+  few = subst (λ (n : ℕ). splits + 2 ≤ 2 ^ n) (bits_by p.terms (choices_of p.terms) ∙ choices.bits) s.few_in_all;
 }

@@ -1,5 +1,5 @@
 -- Over files that are told, a course comes to one outcome, but for a search, which may come to any of its answers.
-use Rattle.std.proofs.Common.{◌≡◌, ℕ, ◌+◌, ◌⊎◌, inl, inr, Bool, true, not, List, [], ◌∷◌, Some, None, Ok, Err, refl, sym, ap, subst, ◌∙◌}
+use Rattle.std.proofs.Common.{◌≡◌, ℕ, ◌+◌, ◌⊎◌, inl, inr, Bool, true, not, List, [], ◌∷◌, Some, Ok, Err, refl, sym, ap, subst, ◌∙◌}
 use Rattle.std.specs.Prelude.{All, IsTrue, position, codes}
 use Rattle.std.proofs.lemmas.List.Quantifiers.{position-Some}
 use Rattle.dt_model.specs.ModelData.{ModelData}
@@ -28,9 +28,9 @@ use Rattle.dt_lemmas.proofs.Options.{some_is}
 use Rattle.dt_top.specs.Answers.{IsRefutedBy, IsRecordedBy}
 use Rattle.dt_top.specs.Course.{FileRead, Outcome, answers, needs, Answered, OnFile}
 use Rattle.dt_top.specs.Lines.{bad_line, tree_line, breaks_line, closed_line, open_line, item_line}
-use Rattle.dt_top.specs.Stages.{IsBadImage, OnModelImage, IsMatching, IsRefusedImage, OnImage, OnProblem, IsRefusedLog, OnLog}
+use Rattle.dt_top.specs.Stages.{IsBadImage, OnModelImage, IsMatching, IsRefusedImage, OnImage, IsRefusedLog, OnLog}
 use Rattle.dt_top.specs.Models.{ModelAsked, shipped_data, OnModelAndList}
-use Rattle.dt_top.specs.Table.{Files, IsSearched, IsFixed}
+use Rattle.dt_top.specs.Table.{Files, IsSearched}
 use Rattle.dt_top.specs.commands.Jobs.{Job, solve, check, replay, walk, model, Doing}
 use Rattle.dt_top.specs.commands.Solve.{Solve, Answering, SolvingList, Solving}
 use Rattle.dt_top.specs.commands.Check.{JudgingLog, CheckingBytes, CheckingList}
