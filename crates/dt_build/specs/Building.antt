@@ -1,10 +1,18 @@
 -- Problems that grow by terms which are put behind the others, and by forms that are required.
-use Rattle.std.specs.Prelude.{ℕ, List, [], ◌++◌, map}
+use Rattle.std.specs.Prelude.{◌≡◌, ◌-◌, Bool, true, List, [], ◌++◌, length, take, drop, map, is_none, position}
+use Rattle.std.specs.List.{list_all}
 use Rattle.dt_bits.specs.declared.value.Width.{Width}
+use Rattle.dt_terms.specs.declared.term.Term.{Term}
 use Rattle.dt_terms.specs.declared.term.Term.TheVariants.{Choice}
+use Rattle.dt_terms.specs.Terms.{is_choice}
 use Rattle.dt_terms.specs.Problem.{ProblemData}
-use Rattle.dt_forms.specs.Forms.{Form, form_placed, all_required}
+use Rattle.dt_forms.specs.Forms.{Form, all_required}
 use Rattle.dt_forms.specs.Placing.{Placed}
+use Rattle.dt_forms.specs.Same.{same_term}
+
+-- the term doesn't stand among these
+abbrev pub is_new : List Term → Term → Bool
+is_new terms term = is_none (position (same_term term) terms)
 
 -- the problem in which these terms stand
 abbrev pub placed_in : ProblemData → Placed → ProblemData
@@ -19,3 +27,8 @@ abbrev pub demanded : ProblemData → List Form → ProblemData
 demanded p fs =
     let q = all_required p.terms fs in
     record { terms = q.terms; required = p.required ++ q.required }
+
+-- the terms are choices, and then these nodes
+pub record AreChoicesAnd (terms nodes : List Term) : Type 0 where
+  pub choices : list_all is_choice (take (length terms - length nodes) terms) ≡ true
+  pub rest : drop (length terms - length nodes) terms ≡ nodes

@@ -1,4 +1,11 @@
-use dt_bits::{NoMemory, Op, Width};
+ghost use Rattle.std.specs.Prelude.{◌≡◌, IfOk};
+ghost use Rattle.std.specs.List.{AllByRecursion};
+ghost use Rattle.dt_bits.specs.Bits.{IsWidth};
+ghost use Rattle.dt_build.specs.Building.{of_choices};
+
+use crate::node::{node_in, term_count};
+use crate::nodes::NodeTable;
+use dt_bits::{Bv, NoMemory, Op, Width};
 use dt_terms::Problem;
 use std::alloc::Global;
 use std::marker::Model;
@@ -11,14 +18,33 @@ use std::marker::Model;
 #[derive(Drop)]
 pub struct Builder {
     problem: Problem,
+    // The terms that stand behind the choices.
+    nodes: NodeTable,
 }
 
 impl Model for Builder {
     ghost use Rattle.dt_terms.specs.Problem.{ProblemData};
+    ghost use Rattle.dt_build.specs.Building.{AreChoicesAnd};
 
     ghost Value = { ProblemData };
 
     ghost view = { λ b. b.problem };
+
+    ghost invariant = { λ b. AreChoicesAnd b.problem.terms b.nodes };
+}
+
+// The problem of choices alone.
+fn problem_of(alloc: Global, choices: &[Width]) -> Result<Problem, NoMemory>
+    requires { AllByRecursion (λ w. IsWidth w.0) choices.now }
+    ensures { IfOk result (λ p. p ≡ of_choices choices.now) }
+{
+    let mut problem = Problem::new(alloc)?;
+    for width in choices {
+        if problem.add_choice(*width).is_err() {
+            return Err(NoMemory);
+        }
+    }
+    Ok(problem)
 }
 
 impl Builder {
@@ -37,10 +63,11 @@ impl Builder {
         requires { AllByRecursion (λ w. IsWidth w.0) choices.now }
         ensures { IfOk result (λ b. b ≡ of_choices choices.now) }
     {
-        let _choices = choices;
-        let problem = Problem::new(alloc)?;
-        let _problem = problem;
-        Err(NoMemory)
+        let problem = problem_of(alloc, choices)?;
+        Ok(Builder {
+            problem,
+            nodes: NodeTable::new(alloc),
+        })
     }
 
     /// Where the operator's node over these terms stands, which is put behind the terms unless it
@@ -50,8 +77,19 @@ impl Builder {
         ensures at { IfOk result (λ t. t ≡ (place self.old.terms op a b c).at) }
         ensures placed { OnOk result (self.new ≡ placed_in self.old (place self.old.terms op a b c)) }
     {
-        let _ignored = (op, a, b, c);
-        Err(NoMemory)
+        let node = node_in(&self.problem, op, a, b, c)?;
+        let choices = term_count(&self.problem) - self.nodes.len();
+        let (place, added) = self.nodes.enter(node)?;
+        if !added {
+            return Ok((choices + place) as u32);
+        }
+        match self.problem.add(op, a, b, c) {
+            Ok(position) => Ok(position),
+            Err(_) => {
+                self.nodes.leave();
+                Err(NoMemory)
+            }
+        }
     }
 
     /// Where the constant of this width stands.
@@ -61,16 +99,24 @@ impl Builder {
         ensures at { IfOk result (λ t. t ≡ (place_const self.old.terms width.0 bits).at) }
         ensures placed { OnOk result (self.new ≡ placed_in self.old (place_const self.old.terms width.0 bits)) }
     {
-        let _ignored = (width, bits);
-        Err(NoMemory)
+        self.place(
+            Op::Const {
+                value: Bv { width, bits },
+            },
+            0,
+            0,
+            0,
+        )
     }
 
     /// Requires a term of one bit.
     pub fn require(&mut self, term: u32) -> Result<(), NoMemory>
         ensures { OnOk result (self.new ≡ with_required self.old term) }
     {
-        let _ignored = term;
-        Err(NoMemory)
+        match self.problem.require(term) {
+            Ok(()) => Ok(()),
+            Err(_) => Err(NoMemory),
+        }
     }
 
     /// Where the term is 0, for a term of one bit.

@@ -1,0 +1,4 @@
+pub mod Lives
+pub mod Models
+pub mod Steps
+pub mod Turns

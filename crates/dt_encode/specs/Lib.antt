@@ -1,0 +1,5 @@
+pub mod Encoding
+pub mod ReadWords
+pub mod SizeFault
+pub mod Telling
+pub mod Widths

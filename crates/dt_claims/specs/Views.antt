@@ -1,0 +1,29 @@
+-- What stands for the values of the code in the definitions.
+use Rattle.std.specs.Prelude.{List, [], map}
+use Rattle.std.specs.declared.vec.Vec.{Vec}
+use Rattle.dt_table.specs.declared.out.Out.{Out}
+use Rattle.dt_table.specs.Apart.{Sized}
+use Rattle.dt_table.specs.Passing.{Access}
+use Rattle.dt_claims.specs.declared.sized.SizedOut.{SizedOut}
+use Rattle.dt_claims.specs.declared.places.Places.{Places}
+
+abbrev pub sized : SizedOut → Sized
+sized x = record { exponent = x.exponent; out = x.out }
+
+-- what stands for the nodes of each access
+abbrev pub rows_of : {Z : Type 0} → List (Vec Out Z) → List (List Out)
+rows_of rows = map (λ r. r.items) rows
+
+-- an access of these places, of which claims ask nothing else
+abbrev pub access_of : Places → Access
+access_of p = record {
+  scope = record { regs = []; inputs = []; vars = [] };
+  regs = p.regs;
+  inputs = p.inputs;
+  address = p.address;
+  align = 0;
+  lo = 0;
+  hi = 0;
+  zero_term = p.zero;
+  one_term = p.one;
+}
