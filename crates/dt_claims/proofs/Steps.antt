@@ -1,5 +1,5 @@
 -- Loops over the nodes of a walk, with what stands for them.
-use Rattle.std.proofs.Common.{◌≡◌, ℕ, Bool, true, false, not, ◌&&◌, cond, List, [], ◌∷◌, ◌++◌, map, length, refl, sym, ap, ◌∙◌, append_assoc, ◌⊎◌, inl, inr}
+use Rattle.std.proofs.Common.{◌≡◌, Bool, true, false, not, ◌&&◌, cond, List, [], ◌∷◌, ◌++◌, map, length, refl, sym, ap, ◌∙◌, append_assoc, ◌⊎◌, inl, inr}
 use Rattle.std.proofs.lemmas.List.{append-nil, nil_from_length}
 use Rattle.dt_model.specs.declared.model.Node.{Node}
 use Rattle.dt_model.specs.ModelData.{ActData, act_of, bind, read, branch, fault, done}
@@ -7,9 +7,9 @@ use Rattle.dt_model.specs.Flow.{steps_of}
 use Rattle.dt_terms.specs.Problem.{ProblemData}
 use Rattle.dt_forms.specs.Forms.{Form, term}
 use Rattle.dt_build.specs.Building.{demanded}
-use Rattle.dt_build.proofs.Demanded.{demanded_none, demanded_parts}
+use Rattle.dt_build.proofs.Demanded.{demanded_none}
 use Rattle.dt_table.specs.declared.out.Out.{Out}
-use Rattle.dt_table.specs.Apart.{Sized, pages_at, tables_at}
+use Rattle.dt_table.specs.Apart.{pages_at, tables_at}
 use Rattle.dt_table.specs.Claims.{reads_of, is_end, ends_only}
 use Rattle.dt_claims.specs.Steps.{page_at, table_at, read_at, end_forms}
 

@@ -1,5 +1,5 @@
 -- Loops that require forms in turn.
-use Rattle.std.proofs.Common.{◌≡◌, ℕ, suc, ◌+◌, ◌<◌, ◌≤◌, List, [], ◌∷◌, ◌++◌, length, drop, get_or, refl, sym, ap, ◌∙◌, arith}
+use Rattle.std.proofs.Common.{◌≡◌, ℕ, suc, ◌+◌, ◌<◌, ◌≤◌, List, [], ◌∷◌, ◌++◌, length, drop, get_or, sym, ap, ◌∙◌, arith}
 use Rattle.std.proofs.lemmas.List.{drop_all}
 use Rattle.std.proofs.Math.Seq.{drop-cons}
 use Rattle.dt_terms.specs.Problem.{ProblemData}
@@ -31,3 +31,8 @@ turned {X} all none p whole xs i l h =
 -- forms that are required behind others
 pub both_required : (p q r : ProblemData) (fs gs : List Form) → q ≡ demanded p fs → r ≡ demanded q gs → r ≡ demanded p (fs ++ gs)
 both_required p q r fs gs e f = f ∙ ap (λ (s : ProblemData). demanded s gs) e ∙ sym (demanded_parts p fs gs)
+
+-- the first of the forms that are left
+pub on : (p q whole : ProblemData) (one rest all : List Form) → all ≡ one ++ rest → q ≡ demanded p one → demanded p all ≡ whole → demanded q rest ≡ whole
+on p q whole one rest all e f h =
+    ap (λ (r : ProblemData). demanded r rest) f ∙ sym (demanded_parts p one rest) ∙ ap (demanded p) (sym e) ∙ h

@@ -1,9 +1,12 @@
 -- What stands for the values of the code in the definitions.
-use Rattle.std.specs.Prelude.{List, [], map}
+use Rattle.std.specs.Prelude.{ℕ, ◌+◌, List, [], length, map}
 use Rattle.std.specs.declared.vec.Vec.{Vec}
+use Rattle.dt_model.specs.ModelData.{ModelData}
+use Rattle.dt_request.specs.declared.list.Requests.{Requests}
 use Rattle.dt_table.specs.declared.out.Out.{Out}
 use Rattle.dt_table.specs.Apart.{Sized}
 use Rattle.dt_table.specs.Passing.{Access}
+use Rattle.dt_table.specs.Table.{choices, regs_at, inputs_at}
 use Rattle.dt_claims.specs.declared.sized.SizedOut.{SizedOut}
 use Rattle.dt_claims.specs.declared.places.Places.{Places}
 
@@ -26,4 +29,14 @@ access_of p = record {
   hi = 0;
   zero_term = p.zero;
   one_term = p.one;
+}
+
+-- where the terms of an access stand, by its number and that of its context
+abbrev pub places_of : ModelData → Requests → ℕ → ℕ → Places
+places_of d r k context = record {
+  address = d.address;
+  regs = regs_at d context;
+  inputs = inputs_at d r k;
+  zero = length (choices d r);
+  one = length (choices d r) + 1;
 }

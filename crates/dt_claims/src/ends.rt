@@ -43,12 +43,7 @@ pub(crate) fn passes(ending: Ending, act: &Act) -> bool
 }
 
 // The walk doesn't come to the node, where it ends there otherwise.
-fn require_end(
-    builder: &mut Builder,
-    ending: Ending,
-    act: &Act,
-    out: Out,
-) -> Result<(), NoMemory>
+fn require_end(builder: &mut Builder, ending: Ending, act: &Act, out: Out) -> Result<(), NoMemory>
     ensures { OnOk result (builder.new ≡ demanded builder.old (end_forms (passes ending) (act_of act.now) out)) }
 {
     if is_end(act) && !passes(ending, act) {

@@ -27,7 +27,11 @@ fn touches(
     if places.address <= exponent {
         return Ok(places.one);
     }
-    let last = number(builder, places.address, quotient(kept.hi.saturating_sub(1), exponent))?;
+    let last = number(
+        builder,
+        places.address,
+        quotient(kept.hi.saturating_sub(1), exponent),
+    )?;
     let block = builder.block(exponent, address)?;
     let above = builder.less(last, block)?;
     let reached = builder.not(above)?;

@@ -5,6 +5,7 @@ mod apart;
 mod claims;
 mod demands;
 mod ends;
+mod extras;
 mod kept;
 mod links;
 mod outs;

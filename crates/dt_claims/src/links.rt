@@ -248,11 +248,27 @@ fn require_link(
         }
         Link::SharePage(a, b) => {
             let (outs, others) = (outs_of(rows, a), outs_of(rows, b));
-            require_pages(alloc, builder, model, places, PageRelation::One, outs, others)
+            require_pages(
+                alloc,
+                builder,
+                model,
+                places,
+                PageRelation::One,
+                outs,
+                others,
+            )
         }
         Link::ApartPage(a, b) => {
             let (outs, others) = (outs_of(rows, a), outs_of(rows, b));
-            require_pages(alloc, builder, model, places, PageRelation::Apart, outs, others)
+            require_pages(
+                alloc,
+                builder,
+                model,
+                places,
+                PageRelation::Apart,
+                outs,
+                others,
+            )
         }
     }
 }

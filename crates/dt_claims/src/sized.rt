@@ -64,11 +64,7 @@ fn push_read(act: &Act, out: Out, reads: &mut Vec<Out>) -> Result<(), NoMemory>
 }
 
 // What stands for the results among these nodes, with their pages.
-fn push_pages_among(
-    nodes: &[Node],
-    outs: &[Out],
-    pages: &mut Vec<SizedOut>,
-) -> Result<(), NoMemory>
+fn push_pages_among(nodes: &[Node], outs: &[Out], pages: &mut Vec<SizedOut>) -> Result<(), NoMemory>
     ensures { OnOk result (map sized pages.new.items ≡ map sized pages.old.items
         ++ pages_at (steps_of nodes.now) outs.now) }
 {
@@ -94,11 +90,7 @@ fn push_tables_among(
 }
 
 // What stands for the reads among these nodes.
-fn push_reads_among(
-    nodes: &[Node],
-    outs: &[Out],
-    reads: &mut Vec<Out>,
-) -> Result<(), NoMemory>
+fn push_reads_among(nodes: &[Node], outs: &[Out], reads: &mut Vec<Out>) -> Result<(), NoMemory>
     ensures { OnOk result (reads.new.items ≡ reads.old.items ++ reads_of (steps_of nodes.now) outs.now) }
 {
     for (node, out) in nodes.iter().zip(outs) {
@@ -132,11 +124,7 @@ pub(crate) fn push_tables(
 }
 
 /// Appends what stands for the reads of a walk.
-pub(crate) fn push_reads(
-    model: &Model,
-    outs: &[Out],
-    reads: &mut Vec<Out>,
-) -> Result<(), NoMemory>
+pub(crate) fn push_reads(model: &Model, outs: &[Out], reads: &mut Vec<Out>) -> Result<(), NoMemory>
     ensures { OnOk result (reads.new.items ≡ reads.old.items ++ reads_of (steps (data_of model.now)) outs.now) }
 {
     push_reads_among(model.nodes.as_slice(), outs, reads)

@@ -57,12 +57,7 @@ fn place_within(
 }
 
 // Where the term stands that tells whether a number of this width passes the test.
-fn place_test(
-    builder: &mut Builder,
-    width: u32,
-    test: Test,
-    term: u32,
-) -> Result<u32, NoMemory>
+fn place_test(builder: &mut Builder, width: u32, test: Test, term: u32) -> Result<u32, NoMemory>
     ensures at { IfOk result (λ t. t ≡ (form_placed builder.old.terms (test_form width test term)).at) }
     ensures placed { OnOk result (builder.new ≡ placed_in builder.old (form_placed builder.old.terms (test_form width test term))) }
 {

@@ -1,4 +1,4 @@
-use Rattle.std.proofs.Common.{◌∷◌, [], map, List, refl, ap, ◌∙◌, get_or, ◌+◌}
+use Rattle.std.proofs.Common.{map, List, refl, ap, ◌∙◌, get_or, ◌+◌}
 use Rattle.std.proofs.lemmas.List.{take_rest}
 use Rattle.dt_build.specs.Building.{demanded}
 use Rattle.dt_table.specs.Outs.{no_out}

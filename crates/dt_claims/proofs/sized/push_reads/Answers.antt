@@ -1,4 +1,4 @@
-use Rattle.std.proofs.Common.{◌≡◌, List, ◌++◌, map, subst}
+use Rattle.std.proofs.Common.{◌≡◌, List, ◌++◌, subst}
 use Rattle.std.specs.Prelude.{OnOk}
 use Rattle.dt_model.specs.ModelData.{ActData}
 use Rattle.dt_table.specs.Claims.{reads_of}

@@ -1,4 +1,4 @@
-use Rattle.std.proofs.Common.{◌≡◌, ◌++◌, map}
+use Rattle.std.proofs.Common.{◌≡◌, ◌++◌}
 use Rattle.dt_model.specs.Flow.{steps_of}
 use Rattle.dt_table.specs.Claims.{reads_of}
 use Rattle.dt_claims.proofs.sized.push_reads_among.Given as goal
