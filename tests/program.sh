@@ -45,6 +45,33 @@ row() {
     fi
 }
 
+# begins NAME STATUS FIRST WORD..: the program's status and the first line of its output, which `answer` keeps.
+begins() {
+    name=$1 status=$2 first=$3
+    shift 3
+    "$program" "$@" >answer 2>errors
+    came=$?
+    if [ "$came" -eq "$status" ] && [ "$(head -n 1 answer)" = "$first" ] && [ ! -s errors ]; then
+        passed=$((passed + 1))
+    else
+        failed=$((failed + 1))
+        echo "FAILED: $name: status $came in place of $status; output:"
+        head -c 300 answer
+    fi
+}
+
+# meets MODEL LIST: `replay` finds that the image that was just printed meets the list.
+meets() { row "$name, judged" 0 'satisfies\n' replay "$1" "$2" answer; }
+
+# closes MODEL LIST: `check` closes the log that was just printed, with as many splits as it has.
+closes() { row "$name, checked" 0 "closed $(grep -c '^split' answer)\n" check "$1" "$2" answer; }
+
+# opens MODEL LIST: `check` finds the log that was just printed open, with as many splits as it has and claims.
+opens() {
+    row "$name, checked" 2 "open $(grep -c '^split' answer)\n" check "$1" "$2" answer
+    row "$name, as claimed" 2 "open $(sed -n '1s/budget //p' answer)\n" check "$1" "$2" answer
+}
+
 # padded FILE BYTES: the file with a line of blanks in front, so that it has so many bytes.
 padded() {
     size=$(wc -c <"$1")
@@ -63,30 +90,129 @@ with_line() {
 
 tables='tables 0x1000 0x2000\n'
 zeros="image 1\n${tables}context\naccess 0 0x0\nend\n"
-record='budget 0\ntry 0 0x0\ntry 1 0x0\ntry 2 0x0\nopen\nend\n'
 
 row 'the first example' 0 "$zeros" solve first_model first_requests 0 1
 row 'a list without accesses' 0 "image 1\n${tables}end\n" solve t1 empty 0 1
 row 'a read outside table memory' 0 "image 1\n${tables}context 0x0\naccess 0 0x0\nend\n" solve t1 outside 0 1
-row 'a demand that zeros break' 2 "$record" solve t1 result 0 1
-row 'zero in other spellings' 2 "$record" solve t1 result 0x00 0xffffffffffffffff
+row 'numbers in other spellings' 0 "$zeros" solve first_model first_requests 0x00 0xffffffffffffffff
+row 'the most splits' 0 "$zeros" solve first_model first_requests 18446744073709551615 1
 
 row 'no words' 3 'refused words\n'
 row 'too few words' 3 'refused words\n' solve t1 result 0
 row 'too many words' 3 'refused words\n' solve t1 result 0 1 1
-row 'a split' 3 'refused words\n' solve t1 empty 1 1
+row 'splits of 2^64' 3 'refused words\n' solve t1 empty 18446744073709551616 1
+row 'splits with a sign' 3 'refused words\n' solve t1 empty -1 1
+row 'check with too few words' 3 'refused words\n' check t1 empty
+row 'check with too many words' 3 'refused words\n' check t1 empty empty 1
 row 'a seed of 2^64' 3 'refused words\n' solve t1 empty 0 18446744073709551616
 row 'a seed with a sign' 3 'refused words\n' solve t1 empty 0 -1
 row 'no shipped model' 3 'refused words\n' solve @sv40 empty 0 1
 row 'a shipped model in place of a list' 3 'refused words\n' solve t1 @sv39 0 1
 row 'an empty name' 3 'refused words\n' solve '' empty 0 1
 
-sed 's/^end$/bits in x 0xff 0x2\nend/' result >bits
-row 'a demand on an input that zeros break' 2 "$record" solve t1 bits 0 1
 row 'a list in place of a model' 4 'refused model line 1 form\n' solve empty empty 0 1
 row 'a model in place of a list' 5 'refused requests line 1 form\n' solve t1 t1 0 1
 row 'the tutorial, solved' 0 "image 1\ntables 0x1000 0x3000\ncontext 0x0\naccess 0 0x0\nend\n" \
     solve two_level_model two_level_outside 0 1
+
+# The three answers of `solve`, each tested by `replay` or `check`.
+begins 'a read outside table memory' 0 'image 1' solve t1 outside 0 1
+meets t1 outside
+begins 'a result' 0 'image 1' solve t1 result 10000 1
+meets t1 result
+demanded='bits reg base 0xffff 0x1000\nbits in x 0xff 0x2\nbits word s 0xffffffffffffffff 0x3001\n'
+sed "s/^end\$/${demanded}end/" result >demands
+row 'the only image' 0 "$(cat image)\n" solve t1 demands 0 1
+sed 's/0x3001$/0x1001/' demands >on_table
+begins 'a page on a table' 1 impossible solve t1 on_table 100 1
+closes t1 on_table
+"$program" check t1 demands answer >odd 2>errors
+[ $? -eq 1 ] && passed=$((passed + 1)) || { failed=$((failed + 1)) && echo 'FAILED: a log of another list'; }
+{ cat demands | sed '$d'; sed -n '/^access/,/^bits word/p' demands | sed 's/a0/a1/; s/0x3001$/0x3000/; s/^ends done$/ends fault 13/'; echo end; } >two_words
+begins 'two words at one cell' 1 impossible solve t1 two_words 1000 1
+closes t1 two_words
+
+cat >t2 <<'END'
+model 1
+word 64
+address 16
+input x 8
+node s if (and (xor (slice 0 0 x) (slice 1 1 x)) (and (xor (slice 1 1 x) (slice 2 2 x)) (xor (slice 0 0 x) (slice 2 2 x)))) d f
+node d done 16:0x0 12
+node f fault 1
+end
+END
+sed 's/^input x 8$/input x 64\ninput y 64/; s/^node s .*/node s if (and (ltu x y) (ltu y x)) d f/' t2 >t3
+sed 's/^tables.*/tables 0x0 0x0/' result >no_tables
+begins 'three bits of which no two are equal' 1 impossible solve t2 no_tables 255 1
+closes t2 no_tables
+begins 'three bits, with no split' 2 'budget 0' solve t2 no_tables 0 1
+opens t2 no_tables
+sed 's/^budget 0/budget 1/' answer >odd
+row 'a record that claims more splits' 1 "refused item $(grep -vc '^budget\|^end' odd) wrong-claim\n" check t2 no_tables odd
+begins 'two numbers below each other' 2 'budget 0' solve t3 no_tables 0 1
+opens t3 no_tables
+begins 'two numbers below each other, with splits' 2 'budget 3' solve t3 no_tables 3 1
+opens t3 no_tables
+
+cat >wide_list <<'END'
+requests 1
+tables 0x80000000 0x80001000
+context c0
+access a0 c0
+via d12
+bits in kind 0x3 0x1
+end
+END
+begins 'three levels in one page' 0 'image 1' solve @sv39 wide_list 100000 1
+meets @sv39 wide_list
+sed 's/^end$/apart table a0 r2 a0 r1\nend/' wide_list >apart_list
+begins 'two tables apart in one page' 1 impossible solve @sv39 apart_list 100000 1
+closes @sv39 apart_list
+items=$(grep -vc '^impossible\|^end' answer)
+{ head -n $items answer; echo end; } >odd
+row 'a refutation without its last item' 6 "refused log item $items tree\n" check @sv39 apart_list odd
+at=$(sed '1d' answer | grep -n '^close' | head -n 1 | cut -d: -f1)
+awk -v at=$((at + 1)) 'NR == at { $2 = 4000000 } { print }' answer >odd
+row 'a refutation that closes no term' 1 "refused item $at term-out-of-range\n" check @sv39 apart_list odd
+sed '$d' answer >odd
+row 'a refutation without its end' 6 "refused log line $((items + 2)) form\n" check @sv39 apart_list odd
+sed 's/^end$/range pa 0x80000000 0x80000fff\nend/' wide_list >odd
+begins 'a page where all tables are' 1 impossible solve @sv39 odd 100000 1
+closes @sv39 odd
+sed 's/^tables.*/tables 0x80000000 0x80000000/' wide_list >odd
+begins 'no table memory' 1 impossible solve @sv39 odd 1000 1
+closes @sv39 odd
+
+# Lists that are too large, and logs from anywhere.
+{ printf 'model 1\nword 64\naddress 16\n'; for v in a b c d e; do echo "var $v 64"; done
+    echo 'node r1 read a 16:0x1000 12 r2 f'; echo 'node r2 read b 16:0x1000 12 r3 f'; echo 'node r3 read c 16:0x1000 12 r4 f'
+    echo 'node r4 read d 16:0x1000 12 r5 f'; echo 'node r5 read e 16:0x1000 12 f f'; echo 'node f fault 1'; echo end; } >five
+{ printf 'requests 1\ntables 0x1000 0x2000\ncontext c0\n'; for i in 0 1 2 3 4 5 6 7; do for j in 0 1 2 3 4 5 6 7; do echo "access a$i$j c0"; done; done; echo end; } >accesses
+row 'too many reads' 10 'too large reads 320\n' solve five accesses 100 1
+row 'too many reads and no log' 10 'too large reads 320\n' check five accesses none
+# log NAME STATUS OUTPUT: what `check` says of the log on standard input.
+log() {
+    cat >some_log
+    row "$1" "$2" "$3" check t1 result some_log
+}
+printf 'impossible\nend\n' | log 'no item' 6 'refused log item 1 tree\n'
+printf 'impossible\nclose 0\nclose 0\nend\n' | log 'an item too many' 6 'refused log item 2 tree\n'
+{ echo impossible; awk 'BEGIN { for (i = 0; i < 1000000; i++) print "split 0 0"; print "end" }'; } |
+    log 'a million splits' 6 'refused log item 1000001 tree\n'
+{ echo impossible; head -c 16385 /dev/zero | tr '\0' 'a'; printf '\nend\n'; } | log 'a long line' 6 'refused log line 2 long\n'
+printf 'impossible\nclose 4294967296\nend\n' | log 'a position of 2^32' 6 'refused log line 2 form\n'
+printf 'impossible\nclose 4294967295\nend\n' | log 'a position that is not there' 1 'refused item 1 term-out-of-range\n'
+printf 'budget 18446744073709551616\nopen\nend\n' | log 'a claim of 2^64' 6 'refused log line 1 form\n'
+printf 'impossible\nclose 0\nend\n' | log 'a cell that is not empty' 1 'refused item 1 not-empty\n'
+printf 'impossible\nopen\nend\n' | log 'an end that was left' 1 'refused item 1 wrong-claim\n'
+printf 'impossible\nclose 0\nend\n' >some_log
+padded some_log 67108864 >large
+row 'a log of 67108864 bytes' 1 'refused item 1 not-empty\n' check t1 result large
+padded some_log 67108865 >large
+row 'a log of 67108865 bytes' 9 'too long log\n' check t1 result large
+row 'an absent log' 7 'read fault log\n' check t1 result none
+row 'the list is read before the log' 7 'read fault requests\n' check t1 none none
 
 # model NAME STATUS OUTPUT: what `solve` says of the model on standard input, with a list without accesses.
 model() {
@@ -206,8 +332,6 @@ sed 's/0x80000001/0x1001/' two_level_image >odd
 row 'the tutorial with a page on a table' 1 'breaks 3\n' replay two_level_model two_level_mapped odd
 
 # Lists with demands and kept ranges.
-demanded='bits reg base 0xffff 0x1000\nbits in x 0xff 0x2\nbits word s 0xffffffffffffffff 0x3001\n'
-sed "s/^end\$/${demanded}end/" result >demands
 row 'demands that are met' 0 'satisfies\n' replay t1 demands image
 row 'an end that is not met' 1 'breaks 2\n' replay t1 demands unset
 sed 's/0 0x2$/0 0x3/; s/^word 0x1010/word 0x1018/' image >other

@@ -1,7 +1,7 @@
 -- What the stages of a command come to.
 use Rattle.std.proofs.Common.{◌≡◌, ℕ, ◌+◌, inl, inr, false, not, List, [], ◌∷◌, ◌++◌, Option, Some, None, Ok, Err, refl, sym, ap, subst, ◌∙◌, append_assoc}
 use Rattle.std.specs.Prelude.{position, codes}
-use Rattle.dt_edge.specs.Told.{Told, Has, Asks}
+use Rattle.dt_edge.specs.Told.{Told, Asks}
 use Rattle.dt_model.specs.ModelData.{ModelData}
 use Rattle.dt_modeltext.specs.declared.fault.ModelFault.{ModelFault}
 use Rattle.dt_modeltext.specs.declared.fault.ModelFault.TheVariants as model
@@ -24,13 +24,26 @@ use Rattle.dt_satisfy.specs.declared.verdict.Judged.TheVariants as judged
 use Rattle.dt_top.specs.Course.{FileRead, Outcome, Answered, OnFile, Never}
 use Rattle.dt_modeltext.specs.Fault.{line_of as model_line, word_of as model_word}
 use Rattle.dt_image.specs.Fault.{line_of as image_line, word_of as image_word}
-use Rattle.dt_top.specs.Lines.{breaks_line, bad_line}
-use Rattle.dt_top.specs.Replies.{bytes_of, IsWant, IsRefusedLine}
+use Rattle.dt_top.specs.Answers.{IsRefutedBy, IsRecordedBy, IsStimulus, IsRefutation, IsRecord}
+use Rattle.dt_top.specs.Lines.{breaks_line, bad_line, tree_line, too_large_line, closed_line, open_line, item_line}
+use Rattle.dt_top.specs.Replies.{bytes_of, IsWant, IsReplyOrWant, IsRefusedLine}
 use Rattle.dt_top.specs.Seen.{seen, StaysShelf, Took, TookModel, TookBoth, names_of}
-use Rattle.dt_top.specs.Stages.{IsRefusedModel, OnModel, IsRequests, IsRefusedList, OnRequests, IsBadImage, OnModelImage, IsMatching, OnImage}
+use Rattle.dt_top.specs.Stages.{IsRefusedModel, OnModel, IsRequests, IsRefusedList, OnRequests, IsBadImage, OnModelImage, IsMatching, OnImage, HasProblem, OnProblem, OnLog}
 use Rattle.dt_top.specs.Models.{ModelAsked, shipped, of_file, shipped_data, model_files, OnModelWord, IsModelOf, OnModelAndList}
 use Rattle.dt_top.specs.declared.models.Shipped.{Shipped}
-use Rattle.dt_top.specs.Table.{Ends, in_call, no_reads, Replies}
+use Rattle.dt_table.specs.Table.{table}
+use Rattle.dt_top.specs.Table.{Outside, Ends, in_call, no_reads, Replies}
+use Rattle.dt_terms.specs.Problem.{ProblemData}
+use Rattle.dt_log.specs.declared.fault.LogFault.{LogFault}
+use Rattle.dt_log.specs.declared.fault.LogFault.TheVariants as log
+use Rattle.dt_log.specs.Fault.{line_of as log_line, item_of as log_item, word_of as log_word, is_memory as log_memory}
+use Rattle.dt_log.specs.Read.{LogData, reading as log_in}
+use Rattle.dt_check.specs.declared.verdict.Cause.{Cause}
+use Rattle.dt_encode.specs.declared.fault.Quantity3.{Quantity3}
+use Rattle.dt_encode.specs.declared.fault.EncodeFault.TheVariants.{TooLarge}
+use Rattle.dt_encode.specs.SizeFault.{size_fault}
+use Rattle.dt_top.specs.commands.Solve.{Answering}
+use Rattle.dt_top.specs.commands.Check.{IsRefusedItem, JudgingLog, CheckingBytes, CheckingList}
 use Rattle.dt_top.specs.commands.Replay.{Judging}
 use Rattle.dt_top.specs.commands.Walk.{WalkingBytes}
 use Rattle.dt_top.specs.commands.Model.{Printing}
@@ -114,6 +127,75 @@ replies_mismatch d list bytes i reply e none s t =
     ends_as no_reads (OnImage d list bytes (λ i. Never)) status.InputRefused reply.status (codes "refused image shape\n") (bytes_of reply.text) s t
     ([], inl (codes "refused image shape\n", inr (i, e, none, refl), refl), refl)
 
+-- ---- the problem of a list
+
+-- memory ran out, or a reply of a status that a course can answer
+replies_or_want : (c : List FileRead → Outcome → Type 0) (due : Status) (want : List ℕ) (reply : Reply) → (Replies c due want) → IsReplyOrWant due want reply → Replies c reply.status (bytes_of reply.text)
+replies_or_want c due want reply h (inl w) = replies_want c reply w
+replies_or_want c due want reply h (inr r) = ends_as no_reads c due reply.status want (bytes_of reply.text) r.0 r.1 h
+
+pub replies_too_large : (d : ModelData) (list : Requests) (what : Quantity3) (number : ℕ) (reply : Reply) → size_fault d list ≡ Some (TooLarge what number)
+    → IsReplyOrWant status.TooLarge (too_large_line what number) reply → Replies (OnProblem d list Never) reply.status (bytes_of reply.text)
+replies_too_large d list what number reply e h =
+    replies_or_want (OnProblem d list Never) status.TooLarge (too_large_line what number) reply
+    ([], inl (too_large_line what number, record { what = what; number = number; product = e; line = refl }, refl), refl) h
+
+-- ---- the text of a log
+
+log_known : (R : Type 0) (fault : LogFault) (n : ℕ) → log_line fault ≡ Some n → OnFalse (log_memory fault) R → R
+log_known R log.Memory n e h = absurd cc
+log_known R (log.Lex l) n e h = h
+log_known R (log.Form m) n e h = h
+log_known R (log.NotATree m) n e h = absurd cc
+
+tree_known : (R : Type 0) (fault : LogFault) (n : ℕ) → log_item fault ≡ Some n → OnFalse (log_memory fault) R → R
+tree_known R log.Memory n e h = absurd cc
+tree_known R (log.Lex l) n e h = absurd cc
+tree_known R (log.Form m) n e h = absurd cc
+tree_known R (log.NotATree m) n e h = h
+
+pub replies_log : (bytes : List ℕ) (fault : LogFault) (reply : Reply) → OnFalse (log_memory fault) (log_in bytes ≡ Err fault)
+    → IsRefusedLine file.Log (log_line fault) (log_word fault) reply → Replies (OnLog bytes (λ log. Never)) reply.status (bytes_of reply.text)
+replies_log bytes fault reply r (inl w) = replies_want (OnLog bytes (λ log. Never)) reply w
+replies_log bytes fault reply r (inr h) =
+    let text = bad_line (codes "log") h.0 (log_word fault) in
+    ends_as no_reads (OnLog bytes (λ log. Never)) status.InputRefused reply.status text (bytes_of reply.text) h.2 h.3
+    ([], inl (text, record { fault = fault; number = h.0; refused = log_known (log_in bytes ≡ Err fault) fault h.0 h.1 r; line = inl (h.1, refl) }, refl), refl)
+
+pub replies_no_tree : (bytes : List ℕ) (fault : LogFault) (item : ℕ) (reply : Reply) → OnFalse (log_memory fault) (log_in bytes ≡ Err fault) → log_item fault ≡ Some item
+    → IsReplyOrWant status.InputRefused (tree_line item) reply → Replies (OnLog bytes (λ log. Never)) reply.status (bytes_of reply.text)
+replies_no_tree bytes fault item reply r e h =
+    replies_or_want (OnLog bytes (λ log. Never)) status.InputRefused (tree_line item) reply
+    ([], inl (tree_line item, record { fault = fault; number = item; refused = tree_known (log_in bytes ≡ Err fault) fault item e r; line = inr (e, refl) }, refl), refl) h
+
+-- ---- the answers of a search
+
+pub replies_stimulus : (d : ModelData) (list : Requests) (splits : ℕ) (text : List ℕ) (reply : Reply) → IsStimulus d list text
+    → reply.status ≡ status.Good → bytes_of reply.text ≡ text → Replies (Answering d list splits) reply.status (bytes_of reply.text)
+replies_stimulus d list splits text reply h s t = ends_as no_reads (Answering d list splits) status.Good reply.status text (bytes_of reply.text) s t ([], inl (text, h, refl), refl)
+
+pub replies_refutation : (d : ModelData) (list : Requests) (splits : ℕ) (text : List ℕ) (reply : Reply) → IsRefutation d list text
+    → reply.status ≡ status.No → bytes_of reply.text ≡ text → Replies (Answering d list splits) reply.status (bytes_of reply.text)
+replies_refutation d list splits text reply h s t = ends_as no_reads (Answering d list splits) status.No reply.status text (bytes_of reply.text) s t ([], inr (inl (text, h, refl)), refl)
+
+pub replies_record : (d : ModelData) (list : Requests) (splits : ℕ) (text : List ℕ) (reply : Reply) → IsRecord d list splits text
+    → reply.status ≡ status.Spent → bytes_of reply.text ≡ text → Replies (Answering d list splits) reply.status (bytes_of reply.text)
+replies_record d list splits text reply h s t = ends_as no_reads (Answering d list splits) status.Spent reply.status text (bytes_of reply.text) s t ([], inr (inr (text, h, refl)), refl)
+
+-- ---- the checker's verdict
+
+pub replies_closed : (p : ProblemData) (log : LogData) (splits : ℕ) (text : List ℕ) (reply : Reply) → IsRefutedBy p log splits → text ≡ closed_line splits
+    → reply.status ≡ status.Good → bytes_of reply.text ≡ text → Replies (JudgingLog p log) reply.status (bytes_of reply.text)
+replies_closed p log splits text reply h e s t = ends_as no_reads (JudgingLog p log) status.Good reply.status (closed_line splits) (bytes_of reply.text) s (t ∙ e) ([], inl (splits, h, refl), refl)
+
+pub replies_open : (p : ProblemData) (log : LogData) (splits : ℕ) (text : List ℕ) (reply : Reply) → IsRecordedBy p log splits → text ≡ open_line splits
+    → reply.status ≡ status.Spent → bytes_of reply.text ≡ text → Replies (JudgingLog p log) reply.status (bytes_of reply.text)
+replies_open p log splits text reply h e s t = ends_as no_reads (JudgingLog p log) status.Spent reply.status (open_line splits) (bytes_of reply.text) s (t ∙ e) ([], inr (inl (splits, h, refl)), refl)
+
+pub replies_item : (p : ProblemData) (log : LogData) (item : ℕ) (cause : Cause) (text : List ℕ) (reply : Reply) → IsRefusedItem p log item cause → text ≡ item_line item cause
+    → reply.status ≡ status.No → bytes_of reply.text ≡ text → Replies (JudgingLog p log) reply.status (bytes_of reply.text)
+replies_item p log item cause text reply h e s t = ends_as no_reads (JudgingLog p log) status.No reply.status (item_line item cause) (bytes_of reply.text) s (t ∙ e) ([], inr (inr (item, cause, h, refl)), refl)
+
 -- ---- the judge's verdict
 
 broken_at : (first : Option ℕ) (n : ℕ) → verdict_of first ≡ judged.Breaks n → (k : ℕ) × (first ≡ Some k) × (k + 1 ≡ n)
@@ -148,6 +230,16 @@ pub never_image : (d : ModelData) (list : Requests) (bytes : List ℕ) (next : I
     → OnImage d list bytes (λ i. Never) files outcome → OnImage d list bytes next files outcome
 never_image d list bytes next files outcome (inl h) = inl h
 never_image d list bytes next files outcome (inr h) = absurd h.2
+
+pub never_problem : (d : ModelData) (list : Requests) (next : List FileRead → Outcome → Type 0) (files : List FileRead) (outcome : Outcome)
+    → OnProblem d list Never files outcome → OnProblem d list next files outcome
+never_problem d list next files outcome (inl h) = inl h
+never_problem d list next files outcome (inr h) = absurd h.1
+
+pub never_log : (bytes : List ℕ) (next : LogData → List FileRead → Outcome → Type 0) (files : List FileRead) (outcome : Outcome)
+    → OnLog bytes (λ log. Never) files outcome → OnLog bytes next files outcome
+never_log bytes next files outcome (inl h) = inl h
+never_log bytes next files outcome (inr h) = absurd h.2
 
 pub never_model_image : (d : ModelData) (bytes : List ℕ) (next : Image → List FileRead → Outcome → Type 0) (files : List FileRead) (outcome : Outcome)
     → OnModelImage d bytes (λ i. Never) files outcome → OnModelImage d bytes next files outcome
@@ -300,6 +392,25 @@ module _ {S : Type 0} (told : S → Told) (faults taken : S → ℕ) (asked : S 
 pub replies_matching : (d : ModelData) (list : Requests) (bytes : List ℕ) (i : Image) → IsMatching d list bytes i → (came : Status) (text : List ℕ)
     → Replies (Judging d list i) came text → Replies (OnImage d list bytes (Judging d list)) came text
 replies_matching d list bytes i m came text h = ends_on no_reads (Judging d list i) (OnImage d list bytes (Judging d list)) (λ files outcome k. inr (i, m, k)) came text h
+
+-- a list within the limits, and what is said of its problem
+pub replies_within : (d : ModelData) (list : Requests) (next : List FileRead → Outcome → Type 0) → HasProblem d list → (came : Status) (text : List ℕ) → Replies next came text → Replies (OnProblem d list next) came text
+replies_within d list next has came text h = ends_on no_reads next (OnProblem d list next) (λ files outcome k. inr (has, k)) came text h
+
+-- a log, and what is said of it
+pub replies_log_read : (p : ProblemData) (bytes : List ℕ) (found : LogData) → log_in bytes ≡ Ok found → (came : Status) (text : List ℕ)
+    → Replies (JudgingLog p found) came text → Replies (CheckingBytes p bytes) came text
+replies_log_read p bytes found reads came text h = ends_on no_reads (JudgingLog p found) (CheckingBytes p bytes) (λ files outcome k. inr (found, reads, k)) came text h
+
+-- the problem of a list, and what is said of a log's file
+pub ends_within : (o : Outside) (name : List ℕ) (d : ModelData) (list : Requests) (p : ProblemData) → HasProblem d list → p ≡ table d list → (came : Status) (text : List ℕ)
+    → Ends o (OnFile file.Log name (CheckingBytes p)) came text → Ends o (CheckingList name d list) came text
+ends_within o name d list p has is came text h =
+    ends_on o (OnFile file.Log name (CheckingBytes p)) (CheckingList name d list) (λ files outcome k. inr (has, subst (λ (q : ProblemData). OnFile file.Log name (CheckingBytes q) files outcome) is k)) came text h
+
+-- a list without a problem
+pub replies_no_problem : (name : List ℕ) (d : ModelData) (list : Requests) (came : Status) (text : List ℕ) → Replies (OnProblem d list Never) came text → Replies (CheckingList name d list) came text
+replies_no_problem name d list came text h = ends_on no_reads (OnProblem d list Never) (CheckingList name d list) (never_problem d list (OnFile file.Log name (CheckingBytes (table d list)))) came text h
 
 -- the walks of an image
 pub replies_walks : (d : ModelData) (bytes : List ℕ) (i : Image) (reply : Reply) (text : List ℕ) → reading d bytes ≡ Ok i → text ≡ walks_text d i

@@ -1,33 +1,44 @@
 -- Over files that are told, where no read failed, a call comes to what words and files have.
-use Rattle.std.proofs.Common.{◌≡◌, ◌≢◌, ℕ, ◌+◌, ◌≤◌, ◌⊎◌, inl, inr, not, List, [], ◌∷◌, ◌++◌, length, Option, Some, None, refl, sym, ap, subst, ◌∙◌}
+use Rattle.std.proofs.Common.{◌≡◌, ◌≢◌, ℕ, ◌+◌, ◌^◌, ◌≤◌, ◌⊎◌, true, inl, inr, not, List, [], ◌∷◌, ◌++◌, length, Option, Some, None, Ok, refl, sym, ap, subst, ◌∙◌, arith}
 use Rattle.std.specs.Prelude.{Bool, IsTrue, All, position, codes}
 use Rattle.dt_edge.specs.Causes.{Rose}
 use Rattle.dt_edge.specs.Told.{IsAbsent, IsLong, after}
 use Rattle.dt_model.specs.ModelData.{ModelData}
-use Rattle.dt_request.specs.Choices.{choice_count}
+use Rattle.dt_request.specs.Choices.{choice_bits}
 use Rattle.dt_request.specs.declared.list.Requests.{Requests}
 use Rattle.dt_image.specs.declared.image.Image.{Image}
-use Rattle.dt_image.specs.Print.{printed}
 use Rattle.dt_satisfy.specs.Claims.{claims}
+use Rattle.std.proofs.lemmas.Bool.{le-ltb}
 use Rattle.dt_image.proofs.ReadImages.{reads_image}
 use Rattle.dt_satisfy.specs.Satisfies.{Satisfies, verdict_of}
 use Rattle.dt_satisfy.specs.declared.verdict.Judged.TheVariants as judged
 use Rattle.dt_satisfy.proofs.Verdicts.{satisfies_all}
 use Rattle.dt_top.specs.Course.{FileRead, Outcome, answers, needs, Answered, OnFile}
 use Rattle.dt_top.specs.Files.{limit_of}
-use Rattle.dt_top.specs.Headline.{HasModel, AskedFor, AskedToJudge, AskedToWalk, AskedToPrint}
-use Rattle.dt_top.specs.Lines.{read_fault_line, too_long_line, breaks_line}
+use Rattle.dt_terms.specs.Problem.{ProblemData}
+use Rattle.dt_pair.specs.declared.Pair.{Pair}
+use Rattle.dt_pair.specs.Ops.{pair_ops}
+use Rattle.dt_log.specs.Read.{LogData, reading as log_in}
+use Rattle.dt_log.specs.Shapes.{is_tree}
+use Rattle.dt_check.specs.declared.verdict.Cause.{Cause}
+use Rattle.dt_check.specs.declared.verdict.Verdict.{Verdict}
+use Rattle.dt_check.specs.declared.verdict.Verdict.TheVariants.{Closed, Unfinished, Refused}
+use Rattle.dt_check.proofs.Loop.{closed_is, unfinished_is}
+use Rattle.dt_table.specs.Sizes.{read_product, done_product, term_product, most_read_product, most_done_product, most_term_product, IsWithin}
+use Rattle.dt_table.specs.Table.{table}
+use Rattle.dt_top.specs.Answers.{IsRefutedBy, IsRecordedBy}
+use Rattle.dt_top.specs.Headline.{HasModel, AskedFor, IsAnswer, IsDecision, AskedToCheck, IsChecked, IsAgreed, AskedToJudge, AskedToWalk, AskedToPrint}
+use Rattle.dt_top.specs.Lines.{read_fault_line, too_long_line, breaks_line, closed_line, open_line, item_line}
 use Rattle.dt_top.specs.Models.{ModelAsked, shipped, of_file, shipped_data, IsModelOf, OnModelAndList}
-use Rattle.dt_top.specs.Record.{zero_record}
 use Rattle.dt_top.specs.Seen.{Seen, IsQuiet, HasAll}
 use Rattle.dt_modeltext.specs.Print.{printed as text_of_model}
 use Rattle.dt_walktext.specs.Printed.{walks_text}
-use Rattle.dt_top.specs.Table.{Outside, Ends, JobEnds, in_call, in_files, Row, Files, Expected, IsMemoryOrWriteFault, Comes, Writes}
-use Rattle.dt_top.specs.Zeros.{zero_image}
-use Rattle.dt_top.specs.commands.Jobs.{Job, solve, replay, job_of, files_of, Doing}
-use Rattle.dt_top.specs.Stages.{IsRequests, OnRequests}
+use Rattle.dt_top.specs.Table.{Outside, Ends, JobEnds, in_call, in_files, Row, Files, Expected, IsSearched, IsFixed, IsMemoryOrWriteFault, Comes, ComesAmong, Writes}
+use Rattle.dt_top.specs.commands.Jobs.{Job, solve, check, replay, walk as walk_job, model as print_job, job_of, files_of, Doing}
+use Rattle.dt_top.specs.Stages.{IsRequests, OnRequests, IsTooLarge, HasProblem}
 use Rattle.dt_top.specs.commands.Replay.{JudgingBytes}
-use Rattle.dt_top.specs.commands.Solve.{ZerosSatisfy, Trying}
+use Rattle.dt_top.specs.commands.Solve.{Solve, Answering, SolvingList, Solving}
+use Rattle.dt_top.specs.commands.Check.{IsRefusedItem, JudgingLog, CheckingList, Checking}
 use Rattle.dt_top.specs.declared.file.File.{File}
 use Rattle.dt_top.specs.declared.file.File.TheVariants as file
 use Rattle.dt_top.specs.declared.models.Shipped.{Shipped}
@@ -40,7 +51,9 @@ use Rattle.dt_sv39.specs.Shipped.{sv39_data}
 use Rattle.dt_sv39.proofs.Acceptance.{sv39_certified}
 use Rattle.dt_top.proofs.Commanded.{found_on}
 use Rattle.dt_top.proofs.Ended.{ends_along, has_more}
-use Rattle.dt_top.proofs.Single.{Stops, IsSingle, single_doing}
+use Rattle.dt_top.proofs.Alike.{Stops, AreAlike, alike_both, not_within}
+use Rattle.dt_top.proofs.ReadLogs.{read_is}
+use Rattle.dt_top.proofs.Single.{IsSingle, single_doing, verdict_on, IsSearchedOut, agree_solving}
 
 -- ---- what is expected is one status and one text
 
@@ -86,17 +99,38 @@ says_one files (needs kind name) a b x y (inl p) (inr q) = absurd (absent_long f
 says_one files (needs kind name) a b x y (inr p) (inl q) = absurd (absent_long files name (limit_of kind) q.0 p.0)
 says_one files (needs kind name) a b x y (inr p) (inr q) = (p.1 ∙ sym q.1, p.2 ∙ sym q.2)
 
+-- as two ways to stop say
+stopped_one : (files : Files) (course : List FileRead → Outcome → Type 0) (a b : Status) (x y : List ℕ) → (s : Stopped files course a x) (t : Stopped files course b y) → s.out ≡ t.out → (a ≡ b) × (x ≡ y)
+stopped_one files course a b x y s t e = says_one files s.out a b x y s.says (subst (λ o. Says files o b y) (sym e) t.says)
+
 ends_one : (files : Files) (course : List FileRead → Outcome → Type 0) → IsSingle files course → (a b : Status) (x y : List ℕ)
     → Ends (in_files ⊥ files) course a x → Ends (in_files ⊥ files) course b y → (a ≡ b) × (x ≡ y)
 ends_one files course one a b x y p q =
     let s = stopped files course a x p in
     let t = stopped files course b y q in
-    let same = one s.given t.given s.out t.out s.has t.has s.stops t.stops s.goes t.goes in
-    says_one files s.out a b x y s.says (subst (λ o. Says files o b y) (sym same) t.says)
+    stopped_one files course a b x y s t (one s.given t.given s.out t.out s.has t.has s.stops t.stops s.goes t.goes)
 
-job_one : (files : Files) (job : Option Job) (a b : Status) (x y : List ℕ) → JobEnds (λ names. in_files ⊥ files) job a x → JobEnds (λ names. in_files ⊥ files) job b y → (a ≡ b) × (x ≡ y)
-job_one files None a b x y p q = (p.0 ∙ sym q.0, p.1 ∙ sym q.1)
-job_one files (Some job) a b x y p q = ends_one files (Doing job) (single_doing files job) a b x y p q
+-- what was said of an answer of a search is an answer of a search
+said_searched : (files : Files) (out : Outcome) (came : Status) (text : List ℕ) → Says files out came text → IsSearchedOut out → IsSearched came
+said_searched files (answers due want) came text h s = subst IsSearched h.0 s
+said_searched files (needs kind name) came text h s = absurd s
+
+solve_one : (files : Files) (job : Solve) (a b : Status) (x y : List ℕ) → (IsSearched b → ⊥) → Ends (in_files ⊥ files) (Solving job) a x → Ends (in_files ⊥ files) (Solving job) b y → (a ≡ b) × (x ≡ y)
+solve_one files job a b x y fixed p q =
+    let s = stopped files (Solving job) a x p in
+    let t = stopped files (Solving job) b y q in
+    elim (agree_solving files job s.given t.given s.out t.out s.has t.has s.stops t.stops s.goes t.goes) [
+      | inl e ↦ stopped_one files (Solving job) a b x y s t e
+      | inr both ↦ absurd (fixed (said_searched files t.out b y t.says both.1))
+    ]
+
+job_one : (files : Files) (job : Option Job) (a b : Status) (x y : List ℕ) → IsFixed job b → JobEnds (λ names. in_files ⊥ files) job a x → JobEnds (λ names. in_files ⊥ files) job b y → (a ≡ b) × (x ≡ y)
+job_one files None a b x y fixed p q = (p.0 ∙ sym q.0, p.1 ∙ sym q.1)
+job_one files (Some (solve job)) a b x y fixed p q = solve_one files job a b x y fixed p q
+job_one files (Some (check job)) a b x y fixed p q = ends_one files (Doing (check job)) (single_doing files (check job) tt) a b x y p q
+job_one files (Some (replay job)) a b x y fixed p q = ends_one files (Doing (replay job)) (single_doing files (replay job) tt) a b x y p q
+job_one files (Some (walk_job job)) a b x y fixed p q = ends_one files (Doing (walk_job job)) (single_doing files (walk_job job) tt) a b x y p q
+job_one files (Some (print_job job)) a b x y fixed p q = ends_one files (Doing (print_job job)) (single_doing files (print_job job) tt) a b x y p q
 
 -- ---- what a call comes to is expected
 
@@ -144,18 +178,26 @@ module _ (s : Seen) (files : Files) (told : s.told ≡ Some files) (quiet : Rose
       (λ given file name g. let l = g.2 in (has given g.0, subst (λ t. IsLong t name (limit_of file)) told l.0))
       (λ g. tt) came text h)
 
-  came_exactly : (words : List (List ℕ)) (came due : Status) (text want : List ℕ) → (came ≡ status.Memory → ⊥) → Row s words came text → Expected words files due want → (came ≡ due) × (text ≡ want)
-  came_exactly words came due text want not row d = job_one files (job_of words) came due text want (job_expected (job_of words) came text not row) d
+  came_exactly : (words : List (List ℕ)) (came due : Status) (text want : List ℕ) → (came ≡ status.Memory → ⊥) → Row s words came text → IsFixed (job_of words) due → Expected words files due want → (came ≡ due) × (text ≡ want)
+  came_exactly words came due text want not row fixed d = job_one files (job_of words) came due text want fixed (job_expected (job_of words) came text not row) d
 
   pub comes_exactly : (words : List (List ℕ)) (came : Status) (old new : Option (List ℕ)) (sent sent_after : Option (List (List ℕ)))
-      → (came ≢ status.WriteFault → Writes (Row s words came) old new sent sent_after) → (due : Status) (want : List ℕ) → Expected words files due want → Comes due want came old new
-  comes_exactly words came old new sent sent_after writes due want d =
+      → (came ≢ status.WriteFault → Writes (Row s words came) old new sent sent_after) → (due : Status) (want : List ℕ) → IsFixed (job_of words) due → Expected words files due want → Comes due want came old new
+  comes_exactly words came old new sent sent_after writes due want fixed d =
       elim (mishap_or came) [
         | inl m ↦ inr m
         | inr not ↦
             let w = writes not.1 in
-            let e = came_exactly words came due w.0 want not.0 w.1 d in
+            let e = came_exactly words came due w.0 want not.0 w.1 fixed d in
             inl (e.0, w.2 ∙ ap (after old) e.1)
+      ]
+
+  pub comes_among : (words : List (List ℕ)) (came : Status) (old new : Option (List ℕ)) (sent sent_after : Option (List (List ℕ)))
+      → (came ≢ status.WriteFault → Writes (Row s words came) old new sent sent_after) → ComesAmong (Expected words files) came old new
+  comes_among words came old new sent sent_after writes =
+      elim (mishap_or came) [
+        | inl m ↦ inr m
+        | inr not ↦ let w = writes not.1 in inl (w.0, job_expected (job_of words) came w.0 not.0 w.1, w.2)
       ]
 
 -- ---- the headlines
@@ -181,21 +223,164 @@ both_given files model requests text d list next more outcome h has within spell
     let listed : FileRead = record { name = requests; bytes = text } in
     (m.0 ++ listed ∷ more, found_on model m.0 d (λ d. OnFile file.Requests requests (λ t. OnRequests d t (next d))) m.2 (listed ∷ more) outcome (refl, within, inr (list, spelled, goes)), has_more (Some files) (Some files) m.0 (listed ∷ more) refl m.1 (has, others))
 
-expected_answer : (words : List (List ℕ)) (files : Files) (d : ModelData) (list : Requests) → (a : AskedFor words files d list) → (came : Status) (text : List ℕ)
-    → JobEnds (λ names. in_files ⊥ files) (Some (solve a.job)) came text → Expected words files came text
-expected_answer words files d list a came text h = subst (λ j. JobEnds (λ names. in_files ⊥ files) j came text) (sym a.form) h
+-- ---- the headline
 
-pub expected_image : (words : List (List ℕ)) (files : Files) (d : ModelData) (list : Requests) → AskedFor words files d list → ZerosSatisfy d list → Expected words files status.Good (printed (zero_image d list))
-expected_image words files d list a z =
-    let r = a.requests in
-    expected_answer words files d list a status.Good (printed (zero_image d list))
-    (both_given files a.job.model a.job.requests r.0 d list Trying [] (answers status.Good (printed (zero_image d list))) a.model r.1 r.2 r.3 tt (inl (z, refl)))
+-- an outcome that comes only after this model and this list
+Found : ModelData → Requests → ModelData → Requests → List FileRead → Outcome → Type 0
+Found d list e other files outcome = (e ≡ d) × (other ≡ list) × (outcome ≡ answers status.WriteFault [])
 
-pub expected_record : (words : List (List ℕ)) (files : Files) (d : ModelData) (list : Requests) → AskedFor words files d list → (ZerosSatisfy d list → ⊥) → Expected words files status.Spent (zero_record (choice_count d list))
-expected_record words files d list a z =
+-- the same, or an answer of the search on this list
+abbrev Answered_or : ModelData → Requests → ℕ → Outcome → Outcome → Type 0
+Answered_or d list splits out end = (out ≡ end) ⊎ ((files : List FileRead) × Answering d list splits files out)
+
+within_has : (d : ModelData) (list : Requests) → IsWithin d list → HasProblem d list
+within_has d list w =
+    let a = le-ltb most_read_product (read_product d list) w.reads in
+    let b = le-ltb most_done_product (done_product d list) w.dones in
+    let c = le-ltb most_term_product (term_product d list) w.terms in
+    rw (a, b, c) refl
+
+solving_found : (files : Files) (d e : ModelData) (list other : Requests) (splits : ℕ) → HasProblem d list
+    → AreAlike files (Answered_or d list splits) (SolvingList splits e other) (Found d list e other)
+unfolding Found
+solving_found files d e list other splits has given rest out end hg ho sg so (inl p) q =
+    let t = subst (λ l. IsTooLarge d l p.0) q.1 (subst (λ m. IsTooLarge m other p.0) q.0 p.1) in
+    absurd (not_within d list p.0 t has)
+solving_found files d e list other splits has given rest out end hg ho sg so (inr p) q =
+    inr (given, subst (λ l. Answering d l splits given out) q.1 (subst (λ m. Answering m other splits given out) q.0 p.1))
+
+said_so : (files : Files) (due came : Status) (want text : List ℕ) (given : List FileRead) (out : Outcome) → Answered due want given out → Says files out came text → (due ≡ came) × (want ≡ text)
+said_so files due came want text [] out h s = subst (λ o. Says files o came text) h s
+said_so files due came want text (f ∷ given) out h s = absurd h
+
+-- what the written text of an answer is
+answer_said : (files : Files) (d : ModelData) (list : Requests) (splits : ℕ) (came : Status) (text : List ℕ) (old new : Option (List ℕ)) (given : List FileRead) (out : Outcome)
+    → Answering d list splits given out → Says files out came text → new ≡ after old text → IsAnswer d list splits came old new
+answer_said files d list splits came text old new given out (inl h) s n =
+    let e = said_so files status.Good came h.0 text given out h.2 s in subst (λ c. IsAnswer d list splits c old new) e.0 (h.0, h.1, n ∙ ap (after old) (sym e.1))
+answer_said files d list splits came text old new given out (inr (inl h)) s n =
+    let e = said_so files status.No came h.0 text given out h.2 s in subst (λ c. IsAnswer d list splits c old new) e.0 (h.0, h.1, n ∙ ap (after old) (sym e.1))
+answer_said files d list splits came text old new given out (inr (inr h)) s n =
+    let e = said_so files status.Spent came h.0 text given out h.2 s in subst (λ c. IsAnswer d list splits c old new) e.0 (h.0, h.1, n ∙ ap (after old) (sym e.1))
+
+answer_mishap : (d : ModelData) (list : Requests) (splits : ℕ) (came : Status) (old new : Option (List ℕ)) → IsMemoryOrWriteFault came → IsAnswer d list splits came old new
+answer_mishap d list splits came old new (inl e) = subst (λ c. IsAnswer d list splits c old new) (sym e) tt
+answer_mishap d list splits came old new (inr e) = subst (λ c. IsAnswer d list splits c old new) (sym e) tt
+
+-- what `solve` comes to among what words and files have
+solve_answers : (words : List (List ℕ)) (files : Files) (d : ModelData) (list : Requests) (splits : ℕ) → AskedFor words files d list splits → (came : Status) (text : List ℕ) (old new : Option (List ℕ))
+    → Expected words files came text → new ≡ after old text → IsAnswer d list splits came old new
+unfolding Found
+solve_answers words files d list splits a came text old new expected n =
+    let job = a.job in
     let r = a.requests in
-    expected_answer words files d list a status.Spent (zero_record (choice_count d list))
-    (both_given files a.job.model a.job.requests r.0 d list Trying [] (answers status.Spent (zero_record (choice_count d list))) a.model r.1 r.2 r.3 tt (inr (z, refl)))
+    let h : Ends (in_files ⊥ files) (Solving job) came text = subst (λ j. JobEnds (λ names. in_files ⊥ files) j came text) a.form expected in
+    let s = stopped files (Solving job) came text h in
+    let marked = both_given files job.model job.requests r.0 d list (Found d list) [] (answers status.WriteFault []) a.model r.1 r.2 r.3 tt (refl, refl, refl) in
+    let alike = alike_both files (Answered_or d list job.splits) (λ out end e. inl e) job.model job.requests (SolvingList job.splits) (Found d list) (λ e other. solving_found files d e list other job.splits (within_has d list a.within)) in
+    subst (λ k. IsAnswer d list k came old new) a.limit
+    (elim (alike s.given marked.0 s.out (answers status.WriteFault []) s.has marked.2 s.stops tt s.goes marked.1) [
+      | inl e ↦ let w = subst (λ o. Says files o came text) e s.says in subst (λ c. IsAnswer d list job.splits c old new) w.0 tt
+      | inr found ↦ answer_said files d list job.splits came text old new found.0 s.out found.1 s.says n
+    ])
+
+pub answers_well : (words : List (List ℕ)) (files : Files) (d : ModelData) (list : Requests) (splits : ℕ) → AskedFor words files d list splits → (came : Status) (old new : Option (List ℕ))
+    → ComesAmong (Expected words files) came old new → IsAnswer d list splits came old new
+answers_well words files d list splits a came old new (inl h) = solve_answers words files d list splits a came h.0 old new h.1 h.2
+answers_well words files d list splits a came old new (inr m) = answer_mishap d list splits came old new m
+
+-- ---- the decision
+
+never_two : (n k : ℕ) → n + 2 ≤ k → k ≤ n + 1 → ⊥
+never_two n k a b = absurd (omega arith)
+
+pub decides : (d : ModelData) (list : Requests) (splits : ℕ) (came : Status) (old new : Option (List ℕ)) → 2 ^ choice_bits d list ≤ splits + 1
+    → IsAnswer d list splits came old new → IsDecision d list came
+decides d list splits status.Good old new enough h = let s = h.1 in record {
+  never_spent = λ e. cc e;
+  good = λ i m. inl refl;
+  only_good = λ e. (s.image, s.meets);
+  no = λ none. absurd (none s.image s.meets);
+  only_no = λ e. absurd (cc e);
+}
+decides d list splits status.No old new enough h = let r = h.1 in record {
+  never_spent = λ e. cc e;
+  good = λ i m. absurd (r.none i m);
+  only_good = λ e. absurd (cc e);
+  no = λ none. inl refl;
+  only_no = λ e. r.none;
+}
+decides d list splits status.Spent old new enough h = let r = h.1 in absurd (never_two splits (2 ^ choice_bits d list) r.few enough)
+decides d list splits status.Memory old new enough h = record { never_spent = λ e. cc e; good = λ i m. inr (inl refl); only_good = λ e. absurd (cc e); no = λ none. inr (inl refl); only_no = λ e. absurd (cc e) }
+decides d list splits status.WriteFault old new enough h = record { never_spent = λ e. cc e; good = λ i m. inr (inr refl); only_good = λ e. absurd (cc e); no = λ none. inr (inr refl); only_no = λ e. absurd (cc e) }
+decides d list splits status.Words old new enough h = absurd h
+decides d list splits status.ModelRefused old new enough h = absurd h
+decides d list splits status.RequestsRefused old new enough h = absurd h
+decides d list splits status.InputRefused old new enough h = absurd h
+decides d list splits status.ReadFault old new enough h = absurd h
+decides d list splits status.TooLong old new enough h = absurd h
+decides d list splits status.TooLarge old new enough h = absurd h
+
+-- ---- what the checker says
+
+expected_check : (words : List (List ℕ)) (files : Files) (d : ModelData) (list : Requests) (text : List ℕ) → (a : AskedToCheck words files d list text) → (came : Status) (line : List ℕ)
+    → JobEnds (λ names. in_files ⊥ files) (Some (check a.job)) came line → Expected words files came line
+expected_check words files d list text a came line h = subst (λ j. JobEnds (λ names. in_files ⊥ files) j came line) (sym a.form) h
+
+check_given : (words : List (List ℕ)) (files : Files) (d : ModelData) (list : Requests) (text : List ℕ) (log : LogData) → (a : AskedToCheck words files d list text) → log_in text ≡ Ok log
+    → (came : Status) (line : List ℕ) → JudgingLog (table d list) log [] (answers came line) → (given : List FileRead) × Checking a.job given (answers came line) × HasAll (Some files) given
+check_given words files d list text log a reads came line j =
+    let r = a.requests in let f = a.log in
+    let spelled : log_in f.0 ≡ Ok log = ap log_in f.3 ∙ reads in
+    both_given files a.job.model a.job.requests r.0 d list (CheckingList a.job.log) (record { name = a.job.log; bytes = f.0 } ∷ []) (answers came line) a.model r.1 r.2 r.3 (f.1, tt)
+    (inr (within_has d list a.within, (refl, f.2, inr (log, spelled, j))))
+
+expected_closed : (words : List (List ℕ)) (files : Files) (d : ModelData) (list : Requests) (text : List ℕ) (log : LogData) → AskedToCheck words files d list text → log_in text ≡ Ok log
+    → (splits : ℕ) → IsRefutedBy (table d list) log splits → Expected words files status.Good (closed_line splits)
+expected_closed words files d list text log a reads n h =
+    expected_check words files d list text a status.Good (closed_line n) (check_given words files d list text log a reads status.Good (closed_line n) (inl (n, h, refl)))
+
+expected_open : (words : List (List ℕ)) (files : Files) (d : ModelData) (list : Requests) (text : List ℕ) (log : LogData) → AskedToCheck words files d list text → log_in text ≡ Ok log
+    → (splits : ℕ) → IsRecordedBy (table d list) log splits → Expected words files status.Spent (open_line splits)
+expected_open words files d list text log a reads n h =
+    expected_check words files d list text a status.Spent (open_line n) (check_given words files d list text log a reads status.Spent (open_line n) (inr (inl (n, h, refl))))
+
+expected_item : (words : List (List ℕ)) (files : Files) (d : ModelData) (list : Requests) (text : List ℕ) (log : LogData) → AskedToCheck words files d list text → log_in text ≡ Ok log
+    → (item : ℕ) (cause : Cause) → IsRefusedItem (table d list) log item cause → Expected words files status.No (item_line item cause)
+expected_item words files d list text log a reads k cause h =
+    expected_check words files d list text a status.No (item_line k cause) (check_given words files d list text log a reads status.No (item_line k cause) (inr (inr (k, cause, h, refl))))
+
+-- a log that neither refutes nor records has an item with a cause
+refused_verdict : (p : ProblemData) (log : LogData) → is_tree log.1 ≡ true → ((n : ℕ) → IsRefutedBy p log n → ⊥) → ((n : ℕ) → IsRecordedBy p log n → ⊥) → (v : Verdict) → v ≡ verdict_on p log
+    → (item : ℕ) × (cause : Cause) × IsRefusedItem p log item cause
+refused_verdict p log t nr nn (Closed n) e = absurd (nr n (closed_is Pair pair_ops p log.0 log.1 (Closed n) n t e refl))
+refused_verdict p log t nr nn (Unfinished n) e = absurd (nn n (unfinished_is Pair pair_ops p log.0 log.1 (Unfinished n) n t e refl))
+refused_verdict p log t nr nn (Refused item cause) e = (item, cause, sym e)
+
+pub checked_well : (words : List (List ℕ)) (files : Files) (d : ModelData) (list : Requests) (text : List ℕ) (log : LogData) → AskedToCheck words files d list text → log_in text ≡ Ok log
+    → (came : Status) (old new : Option (List ℕ)) → ((due : Status) (want : List ℕ) → IsFixed (job_of words) due → Expected words files due want → Comes due want came old new) → IsChecked d list log came old new
+checked_well words files d list text log a reads came old new comes =
+    let p = table d list in
+    let fixed = λ (due : Status). subst (λ j. IsFixed j due) (sym a.form) tt in
+    record {
+      closed = λ n h. comes status.Good (closed_line n) (fixed status.Good) (expected_closed words files d list text log a reads n h);
+      left_open = λ n h. comes status.Spent (open_line n) (fixed status.Spent) (expected_open words files d list text log a reads n h);
+      refused = λ nr nn.
+          let v = refused_verdict p log (read_is text log reads).tree nr nn (verdict_on p log) refl in
+          (v.0, v.1, v.2, comes status.No (item_line v.0 v.1) (fixed status.No) (expected_item words files d list text log a reads v.0 v.1 v.2));
+    }
+
+-- what `solve` prints, `check` closes, or finds open after as many splits
+pub agrees_well : (words : List (List ℕ)) (files : Files) (d : ModelData) (list : Requests) (text : List ℕ) → AskedToCheck words files d list text
+    → (came : Status) (old new : Option (List ℕ)) → ((due : Status) (want : List ℕ) → IsFixed (job_of words) due → Expected words files due want → Comes due want came old new) → IsAgreed d list text came old new
+agrees_well words files d list text a came old new comes =
+    let fixed = λ (due : Status). subst (λ j. IsFixed j due) (sym a.form) tt in
+    record {
+      refutation = λ r. let t = r.text_is in comes status.Good (closed_line r.splits) (fixed status.Good) (expected_closed words files d list text r.log a t.reads_back r.splits r.refutes);
+      recorded = λ n r. let t = r.text_is in let s = r.spent in comes status.Spent (open_line n) (fixed status.Spent) (expected_open words files d list text r.log a t.reads_back n s.record_is);
+    }
+
+-- ---- the judge
 
 expected_judgement : (words : List (List ℕ)) (files : Files) (d : ModelData) (list : Requests) (i : Image) → (a : AskedToJudge words files d list i) → (came : Status) (text : List ℕ)
     → JobEnds (λ names. in_files ⊥ files) (Some (replay a.job)) came text → Expected words files came text
@@ -235,6 +420,14 @@ expected_walks words files s i a =
     let f = a.image in
     subst (λ j. JobEnds (λ names. in_files ⊥ files) j status.Good (walks_text (shipped_data s) i)) (sym a.form)
     (record { name = a.name; bytes = f.0 } ∷ [], (refl, f.2, inr (i, f.3, refl)), (f.1, tt))
+
+-- ---- what is fixed
+
+pub judge_fixed : (words : List (List ℕ)) (files : Files) (d : ModelData) (list : Requests) (i : Image) → AskedToJudge words files d list i → (due : Status) → IsFixed (job_of words) due
+judge_fixed words files d list i a due = subst (λ j. IsFixed j due) (sym a.form) tt
+
+pub walk_fixed : (words : List (List ℕ)) (files : Files) (s : Shipped) (i : Image) → AskedToWalk words files s i → (due : Status) → IsFixed (job_of words) due
+walk_fixed words files s i a due = subst (λ j. IsFixed j due) (sym a.form) tt
 
 -- ---- a command that reads no file
 

@@ -2,7 +2,9 @@ pub mod Appended
 pub mod Cut
 pub mod Ended
 pub mod Commanded
+pub mod Alike
 pub mod Single
 pub mod Exact
 pub mod Room
-pub mod Zeroed
+pub mod ReadLogs
+pub mod Searched

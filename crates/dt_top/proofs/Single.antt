@@ -1,130 +1,65 @@
--- Over files that are told, a course comes to one outcome.
-use Rattle.std.proofs.Common.{◌≡◌, ℕ, ◌+◌, ◌≤◌, ◌<◌, ◌⊎◌, inl, inr, Bool, true, not, List, [], ◌∷◌, length, Some, None, Ok, Err, sym, ap, subst, ◌∙◌, arith}
+-- Over files that are told, a course comes to one outcome, but for a search, which may come to any of its answers.
+use Rattle.std.proofs.Common.{◌≡◌, ℕ, ◌+◌, ◌⊎◌, inl, inr, Bool, true, not, List, [], ◌∷◌, Some, Ok, Err, refl, sym, ap, subst, ◌∙◌}
 use Rattle.std.specs.Prelude.{All, IsTrue, position, codes}
 use Rattle.std.proofs.lemmas.List.Quantifiers.{position-Some}
-use Rattle.dt_edge.specs.Told.{IsLong}
 use Rattle.dt_model.specs.ModelData.{ModelData}
-use Rattle.dt_modeltext.specs.Read.{IsModelText}
-use Rattle.dt_request.specs.declared.fault.RequestFault.{RequestFault}
 use Rattle.dt_request.specs.declared.list.Requests.{Requests}
-use Rattle.dt_request.specs.Fault.{line_of as list_line, word_of as list_word}
-use Rattle.dt_request.specs.Read.{reading as list_in}
 use Rattle.dt_image.specs.declared.fault.ImageFault.{ImageFault}
 use Rattle.dt_image.specs.declared.image.Image.{Image}
+use Rattle.dt_image.specs.Fault.{line_of as image_line, word_of as image_word}
 use Rattle.dt_image.specs.Read.{reading}
 use Rattle.dt_satisfy.specs.Claims.{claims}
 use Rattle.dt_satisfy.specs.Satisfies.{Matches}
-use Rattle.dt_top.specs.Course.{FileRead, Outcome, answers, needs, Answered, OnFile}
-use Rattle.dt_modeltext.specs.Fault.{line_of as model_line, word_of as model_word}
-use Rattle.dt_image.specs.Fault.{line_of as image_line, word_of as image_word}
-use Rattle.dt_top.specs.Files.{limit_of}
-use Rattle.dt_top.specs.Lines.{bad_line, breaks_line}
-use Rattle.dt_top.specs.Seen.{HasAll}
-use Rattle.dt_top.specs.Stages.{IsRefusedModel, OnModel, IsRequests, IsRefusedList, OnRequests, IsBadImage, OnModelImage, IsMatching, IsRefusedImage, OnImage}
-use Rattle.dt_top.specs.Models.{ModelAsked, shipped, of_file, shipped_data, OnModelWord, OnModelAndList}
-use Rattle.dt_top.specs.Table.{Files}
-use Rattle.dt_top.specs.commands.Jobs.{Job, solve, replay, walk, model, Doing}
-use Rattle.dt_top.specs.commands.Replay.{Judging, JudgingBytes}
-use Rattle.dt_top.specs.commands.Solve.{Trying}
-use Rattle.dt_top.specs.commands.Walk.{WalkingBytes}
-use Rattle.dt_modeltext.specs.Print.{printed}
+use Rattle.dt_terms.specs.Problem.{ProblemData}
+use Rattle.dt_pair.specs.declared.Pair.{Pair}
+use Rattle.dt_pair.specs.Ops.{pair_ops}
+use Rattle.dt_log.specs.declared.fault.LogFault.{LogFault}
+use Rattle.dt_log.specs.declared.fault.LogFault.TheVariants as faults
+use Rattle.dt_log.specs.Fault.{line_of as log_line, item_of as log_item, word_of as log_word}
+use Rattle.dt_log.specs.Read.{LogData, reading as log_in}
+use Rattle.dt_check.specs.declared.verdict.Verdict.{Verdict}
+use Rattle.dt_check.specs.declared.verdict.Verdict.TheVariants.{Closed, Unfinished, Refused}
+use Rattle.dt_check.specs.Reading.{verdict_of}
+use Rattle.dt_check.proofs.Loop.{is_closed, is_unfinished}
+use Rattle.dt_table.specs.Table.{table}
 use Rattle.dt_walktext.specs.Printed.{walks_text}
+use Rattle.dt_modeltext.specs.Print.{printed}
+use Rattle.dt_lemmas.proofs.Options.{some_is}
+use Rattle.dt_top.specs.Answers.{IsRefutedBy, IsRecordedBy}
+use Rattle.dt_top.specs.Course.{FileRead, Outcome, answers, needs, Answered, OnFile}
+use Rattle.dt_top.specs.Lines.{bad_line, tree_line, breaks_line, closed_line, open_line, item_line}
+use Rattle.dt_top.specs.Stages.{IsBadImage, OnModelImage, IsMatching, IsRefusedImage, OnImage, IsRefusedLog, OnLog}
+use Rattle.dt_top.specs.Models.{ModelAsked, shipped_data, OnModelAndList}
+use Rattle.dt_top.specs.Table.{Files, IsSearched}
+use Rattle.dt_top.specs.commands.Jobs.{Job, solve, check, replay, walk, model, Doing}
+use Rattle.dt_top.specs.commands.Solve.{Solve, Answering, SolvingList, Solving}
+use Rattle.dt_top.specs.commands.Check.{JudgingLog, CheckingBytes, CheckingList}
+use Rattle.dt_top.specs.commands.Replay.{Judging, JudgingBytes}
+use Rattle.dt_top.specs.commands.Walk.{WalkingBytes}
 use Rattle.dt_top.specs.declared.file.File.{File}
 use Rattle.dt_top.specs.declared.file.File.TheVariants as file
 use Rattle.dt_top.specs.declared.status.Status.{Status}
 use Rattle.dt_top.specs.declared.status.Status.TheVariants as status
-use Rattle.dt_modeltext.proofs.OneFault.{one_fault}
-use Rattle.dt_lemmas.proofs.Options.{some_is}
-
--- it answered, or the file that it needs is absent or too long
-abbrev pub Stops : Files → Outcome → Type 0
-Stops files (answers came text) = Unit {0}
-Stops files (needs kind name) = (files name ≡ None) ⊎ IsLong (Some files) name (limit_of kind)
+use Rattle.dt_top.proofs.Alike.{AreAlike, alike_answered, alike_file, alike_both, alike_problem}
 
 -- two ways to stop are the same
-abbrev pub IsSingle : Files → (List FileRead → Outcome → Type 0) → Type 0
-IsSingle files course = (given other : List FileRead) (out end : Outcome) → HasAll (Some files) given → HasAll (Some files) other
-    → Stops files out → Stops files end → course given out → course other end → out ≡ end
+abbrev pub Same : Outcome → Outcome → Type 0
+Same out end = out ≡ end
 
--- ---- one answer, one file
+same_is : (out end : Outcome) → out ≡ end → Same out end
+same_is out end e = e
+
+abbrev pub IsSingle : Files → (List FileRead → Outcome → Type 0) → Type 0
+IsSingle files course = AreAlike files Same course course
 
 single_answered : (files : Files) (came : Status) (text : List ℕ) → IsSingle files (Answered came text)
-single_answered files came text [] [] out end hg ho sg so p q = p ∙ sym q
-single_answered files came text [] (g ∷ other) out end hg ho sg so p q = absurd q
-single_answered files came text (f ∷ given) other out end hg ho sg so p q = absurd p
-
-none_is : (a : List ℕ) → None ≡ Some a → ⊥
-none_is a e = cc
-
--- a file that is absent or too long isn't read
-not_both : (files : Files) (kind : File) (name : List ℕ) (f : FileRead) → Stops files (needs kind name) → files f.name ≡ Some f.bytes → f.name ≡ name → length f.bytes ≤ limit_of kind → ⊥
-not_both files kind name f (inl none) has named le = none_is f.bytes (sym none ∙ subst (λ n. files n ≡ Some f.bytes) named has)
-not_both files kind name f (inr long) has named le =
-    let same = some_is long.0 f.bytes (sym long.1 ∙ subst (λ n. files n ≡ Some f.bytes) named has) in
-    let over = subst (λ (b : List ℕ). limit_of kind < length b) same long.2 in absurd (omega arith)
+single_answered files came text = alike_answered files Same same_is came text
 
 single_file : (files : Files) (kind : File) (name : List ℕ) (next : List ℕ → List FileRead → Outcome → Type 0) → ((bytes : List ℕ) → IsSingle files (next bytes)) → IsSingle files (OnFile kind name next)
-single_file files kind name next one [] [] out end hg ho sg so p q = p ∙ sym q
-single_file files kind name next one [] (g ∷ other) out end hg ho sg so p q = absurd (not_both files kind name g (subst (Stops files) p sg) ho.0 q.0 q.1)
-single_file files kind name next one (f ∷ given) [] out end hg ho sg so p q = absurd (not_both files kind name f (subst (Stops files) q so) hg.0 p.0 p.1)
-single_file files kind name next one (f ∷ given) (g ∷ other) out end hg ho sg so p q =
-    let same = some_is g.bytes f.bytes (sym ho.0 ∙ ap files (q.0 ∙ sym p.0) ∙ hg.0) in
-    one f.bytes given other out end hg.1 ho.1 sg so p.2 (subst (λ b. next b other end) same q.2)
-
--- ---- models
-
-one_model : (bytes : List ℕ) (c d : ModelData) → IsModelText bytes c → IsModelText bytes d → c ≡ d
-one_model bytes c d p q = let e : Ok c ≡ Ok d = sym p.spelled ∙ q.spelled in cc
-
-refused_one : (bytes text line : List ℕ) → IsRefusedModel bytes text → IsRefusedModel bytes line → text ≡ line
-refused_one bytes text line a b =
-    let same = one_fault bytes a.fault b.fault a.number b.number a.place b.place a.refused b.refused in
-    let n = some_is a.number b.number (sym a.place ∙ ap model_line same ∙ b.place) in
-    a.line ∙ ap (λ k. bad_line (codes "model") k (model_word a.fault)) n ∙ ap (λ f. bad_line (codes "model") b.number (model_word f)) same ∙ sym b.line
-
-single_model : (files : Files) (bytes : List ℕ) (next : ModelData → List FileRead → Outcome → Type 0) → ((d : ModelData) → IsSingle files (next d)) → IsSingle files (OnModel bytes next)
-single_model files bytes next one given other out end hg ho sg so (inl p) (inl q) =
-    single_answered files status.ModelRefused p.0 given other out end hg ho sg so p.2 (subst (λ t. Answered status.ModelRefused t other end) (refused_one bytes q.0 p.0 q.1 p.1) q.2)
-single_model files bytes next one given other out end hg ho sg so (inl p) (inr q) = let r = p.1 in absurd (r.none q.0 q.1)
-single_model files bytes next one given other out end hg ho sg so (inr p) (inl q) = let r = q.1 in absurd (r.none p.0 p.1)
-single_model files bytes next one given other out end hg ho sg so (inr p) (inr q) =
-    one p.0 given other out end hg ho sg so p.2 (subst (λ d. next d other end) (one_model bytes q.0 p.0 q.1 p.1) q.2)
-
--- ---- lists
-
-one_list : (d : ModelData) (bytes : List ℕ) (k l : Requests) → IsRequests d bytes k → IsRequests d bytes l → k ≡ l
-one_list d bytes k l p q = let e : Ok k ≡ Ok l = sym p ∙ q in cc
-
-no_list : (d : ModelData) (bytes : List ℕ) (e : RequestFault) (l : Requests) → list_in d bytes ≡ Err e → IsRequests d bytes l → ⊥
-no_list d bytes e l p q = let k : Err e ≡ Ok l = sym p ∙ q in cc
-
-list_fault : (d : ModelData) (bytes : List ℕ) (e f : RequestFault) → list_in d bytes ≡ Err e → list_in d bytes ≡ Err f → e ≡ f
-list_fault d bytes e f p q = let k = sym p ∙ q in cc
-
-refused_list_one : (d : ModelData) (bytes text line : List ℕ) → IsRefusedList d bytes text → IsRefusedList d bytes line → text ≡ line
-refused_list_one d bytes text line a b =
-    let same = list_fault d bytes a.fault b.fault a.refused b.refused in
-    let n = some_is a.number b.number (sym a.place ∙ ap list_line same ∙ b.place) in
-    a.line ∙ ap (λ k. bad_line (codes "requests") k (list_word a.fault)) n ∙ ap (λ f. bad_line (codes "requests") b.number (list_word f)) same ∙ sym b.line
-
-single_list : (files : Files) (d : ModelData) (bytes : List ℕ) (next : Requests → List FileRead → Outcome → Type 0) → ((list : Requests) → IsSingle files (next list)) → IsSingle files (OnRequests d bytes next)
-single_list files d bytes next one given other out end hg ho sg so (inl p) (inl q) =
-    single_answered files status.RequestsRefused p.0 given other out end hg ho sg so p.2 (subst (λ t. Answered status.RequestsRefused t other end) (refused_list_one d bytes q.0 p.0 q.1 p.1) q.2)
-single_list files d bytes next one given other out end hg ho sg so (inl p) (inr q) = let r = p.1 in absurd (no_list d bytes r.fault q.0 r.refused q.1)
-single_list files d bytes next one given other out end hg ho sg so (inr p) (inl q) = let r = q.1 in absurd (no_list d bytes r.fault p.0 r.refused p.1)
-single_list files d bytes next one given other out end hg ho sg so (inr p) (inr q) =
-    one p.0 given other out end hg ho sg so p.2 (subst (λ l. next l other end) (one_list d bytes q.0 p.0 q.1 p.1) q.2)
-
--- ---- the models that words name
-
-single_word : (files : Files) (model : ModelAsked) (next : ModelData → List FileRead → Outcome → Type 0) → ((d : ModelData) → IsSingle files (next d)) → IsSingle files (OnModelWord model next)
-single_word files (shipped s) next one = one (shipped_data s)
-single_word files (of_file name) next one = single_file files file.Model name (λ bytes. OnModel bytes next) (λ bytes. single_model files bytes next one)
+single_file files kind name next one = alike_file files Same same_is kind name next next one
 
 single_both : (files : Files) (m : ModelAsked) (r : List ℕ) (next : ModelData → Requests → List FileRead → Outcome → Type 0) → ((d : ModelData) (list : Requests) → IsSingle files (next d list)) → IsSingle files (OnModelAndList m r next)
-single_both files m r next one =
-    single_word files m (λ d. OnFile file.Requests r (λ text. OnRequests d text (next d)))
-    (λ d. single_file files file.Requests r (λ text. OnRequests d text (next d)) (λ text. single_list files d text (next d) (one d)))
+single_both files m r next one = alike_both files Same same_is m r next next one
 
 -- ---- images
 
@@ -170,13 +105,7 @@ single_image files d list bytes next one given other out end hg ho sg so (inr p)
     let mp = p.1 in let mq = q.1 in
     one p.0 given other out end hg ho sg so p.2 (subst (λ i. next i other end) (one_image d bytes q.0 p.0 mq.spelled mp.spelled) q.2)
 
--- ---- the commands
-
-single_trying : (files : Files) (d : ModelData) (list : Requests) → IsSingle files (Trying d list)
-single_trying files d list given other out end hg ho sg so (inl p) (inl q) = single_answered files status.Good _ given other out end hg ho sg so p.1 q.1
-single_trying files d list given other out end hg ho sg so (inl p) (inr q) = absurd (q.0 p.0)
-single_trying files d list given other out end hg ho sg so (inr p) (inl q) = absurd (p.0 q.0)
-single_trying files d list given other out end hg ho sg so (inr p) (inr q) = single_answered files status.Spent _ given other out end hg ho sg so p.1 q.1
+-- ---- the judge
 
 -- where a claim is broken, not all hold
 pub one_broken : (held : List Bool) (k : ℕ) → position not held ≡ Some k → All IsTrue held → ⊥
@@ -193,12 +122,128 @@ single_judging files d list i given other out end hg ho sg so (inr p) (inr q) =
     single_answered files status.No (breaks_line (p.0 + 1)) given other out end hg ho sg so p.2
     (subst (λ k. Answered status.No (breaks_line (k + 1)) other end) (some_is q.0 p.0 (sym q.1 ∙ p.1)) q.2)
 
-pub single_doing : (files : Files) (job : Job) → IsSingle files (Doing job)
-single_doing files (solve job) = single_both files job.model job.requests Trying (single_trying files)
-single_doing files (replay job) =
+-- ---- logs
+
+one_log : (bytes : List ℕ) (a b : LogData) → log_in bytes ≡ Ok a → log_in bytes ≡ Ok b → a ≡ b
+one_log bytes a b p q = let e : Ok a ≡ Ok b = sym p ∙ q in cc
+
+no_log : (bytes : List ℕ) (e : LogFault) (a : LogData) → log_in bytes ≡ Err e → log_in bytes ≡ Ok a → ⊥
+no_log bytes e a p q = let k : Err e ≡ Ok a = sym p ∙ q in cc
+
+log_fault : (bytes : List ℕ) (e f : LogFault) → log_in bytes ≡ Err e → log_in bytes ≡ Err f → e ≡ f
+log_fault bytes e f p q = let k = sym p ∙ q in cc
+
+-- a fault names a line or an item, not both
+line_or_item : (f : LogFault) (n m : ℕ) → log_line f ≡ Some n → log_item f ≡ Some m → ⊥
+line_or_item faults.Memory n m p q = cc
+line_or_item (faults.Lex l) n m p q = cc
+line_or_item (faults.Form k) n m p q = cc
+line_or_item (faults.NotATree k) n m p q = cc
+
+-- what is said of a fault
+abbrev Says : LogFault → ℕ → List ℕ → Type 0
+Says f n text = ((log_line f ≡ Some n) × (text ≡ bad_line (codes "log") n (log_word f))) ⊎ ((log_item f ≡ Some n) × (text ≡ tree_line n))
+
+says_one : (f : LogFault) (n m : ℕ) (text line : List ℕ) → Says f n text → Says f m line → text ≡ line
+says_one f n m text line (inl p) (inl q) = p.1 ∙ ap (λ k. bad_line (codes "log") k (log_word f)) (some_is n m (sym p.0 ∙ q.0)) ∙ sym q.1
+says_one f n m text line (inl p) (inr q) = absurd (line_or_item f n m p.0 q.0)
+says_one f n m text line (inr p) (inl q) = absurd (line_or_item f m n q.0 p.0)
+says_one f n m text line (inr p) (inr q) = p.1 ∙ ap tree_line (some_is n m (sym p.0 ∙ q.0)) ∙ sym q.1
+
+refused_log_one : (bytes text line : List ℕ) → IsRefusedLog bytes text → IsRefusedLog bytes line → text ≡ line
+refused_log_one bytes text line a b =
+    let same = log_fault bytes a.fault b.fault a.refused b.refused in
+    says_one b.fault a.number b.number text line (subst (λ f. Says f a.number text) same a.line) b.line
+
+single_log : (files : Files) (bytes : List ℕ) (next : LogData → List FileRead → Outcome → Type 0) → ((log : LogData) → IsSingle files (next log)) → IsSingle files (OnLog bytes next)
+single_log files bytes next one given other out end hg ho sg so (inl p) (inl q) =
+    single_answered files status.InputRefused p.0 given other out end hg ho sg so p.2 (subst (λ t. Answered status.InputRefused t other end) (refused_log_one bytes q.0 p.0 q.1 p.1) q.2)
+single_log files bytes next one given other out end hg ho sg so (inl p) (inr q) = let r = p.1 in absurd (no_log bytes r.fault q.0 r.refused q.1)
+single_log files bytes next one given other out end hg ho sg so (inr p) (inl q) = let r = q.1 in absurd (no_log bytes r.fault p.0 r.refused p.1)
+single_log files bytes next one given other out end hg ho sg so (inr p) (inr q) =
+    one p.0 given other out end hg ho sg so p.2 (subst (λ l. next l other end) (one_log bytes q.0 p.0 q.1 p.1) q.2)
+
+-- ---- the checker's verdict
+
+-- the status and the line of a verdict
+abbrev pub verdict_status : Verdict → Status
+verdict_status (Closed s) = status.Good
+verdict_status (Unfinished n) = status.Spent
+verdict_status (Refused item cause) = status.No
+
+abbrev pub verdict_line : Verdict → List ℕ
+verdict_line (Closed s) = closed_line s
+verdict_line (Unfinished n) = open_line n
+verdict_line (Refused item cause) = item_line item cause
+
+abbrev pub verdict_on : ProblemData → LogData → Verdict
+verdict_on p log = verdict_of pair_ops p log.0 log.1
+
+pub closed_on : (p : ProblemData) (log : LogData) (s : ℕ) → IsRefutedBy p log s → verdict_on p log ≡ Closed s
+closed_on p log s r = is_closed Pair pair_ops p log.0 log.1 (verdict_on p log) s refl r
+
+pub unfinished_on : (p : ProblemData) (log : LogData) (n : ℕ) → IsRecordedBy p log n → verdict_on p log ≡ Unfinished n
+unfinished_on p log n r = is_unfinished Pair pair_ops p log.0 log.1 (verdict_on p log) n refl r
+
+judged_so : (p : ProblemData) (log : LogData) (files : List FileRead) (out : Outcome) → JudgingLog p log files out → Answered (verdict_status (verdict_on p log)) (verdict_line (verdict_on p log)) files out
+judged_so p log files out (inl h) = subst (λ v. Answered (verdict_status v) (verdict_line v) files out) (sym (closed_on p log h.0 h.1)) h.2
+judged_so p log files out (inr (inl h)) = subst (λ v. Answered (verdict_status v) (verdict_line v) files out) (sym (unfinished_on p log h.0 h.1)) h.2
+judged_so p log files out (inr (inr h)) = subst (λ v. Answered (verdict_status v) (verdict_line v) files out) (sym h.2) h.3
+
+single_judging_log : (files : Files) (p : ProblemData) (log : LogData) → IsSingle files (JudgingLog p log)
+single_judging_log files p log given other out end hg ho sg so a b =
+    single_answered files (verdict_status (verdict_on p log)) (verdict_line (verdict_on p log)) given other out end hg ho sg so (judged_so p log given out a) (judged_so p log other end b)
+
+single_checking : (files : Files) (name : List ℕ) (d : ModelData) (list : Requests) → IsSingle files (CheckingList name d list)
+single_checking files name d list =
+    let p = table d list in
+    alike_problem files Same same_is d list (OnFile file.Log name (CheckingBytes p)) (OnFile file.Log name (CheckingBytes p))
+    (single_file files file.Log name (CheckingBytes p) (λ bytes. single_log files bytes (JudgingLog p) (λ log. single_judging_log files p log)))
+
+-- ---- a search
+
+-- it answered as a search does
+abbrev pub IsSearchedOut : Outcome → Type 0
+IsSearchedOut (answers came text) = IsSearched came
+IsSearchedOut (needs kind name) = ⊥
+
+-- the same, or answers of a search both
+abbrev pub Agree : Outcome → Outcome → Type 0
+Agree out end = (out ≡ end) ⊎ (IsSearchedOut out × IsSearchedOut end)
+
+agree_is : (out end : Outcome) → out ≡ end → Agree out end
+agree_is out end e = inl e
+
+searched_out : (due : Status) (want : List ℕ) (files : List FileRead) (out : Outcome) → IsSearched due → Answered due want files out → IsSearchedOut out
+searched_out due want [] out s h = subst IsSearchedOut (sym h) s
+searched_out due want (f ∷ files) out s h = absurd h
+
+answering_out : (d : ModelData) (list : Requests) (splits : ℕ) (files : List FileRead) (out : Outcome) → Answering d list splits files out → IsSearchedOut out
+answering_out d list splits files out (inl h) = searched_out status.Good h.0 files out tt h.2
+answering_out d list splits files out (inr (inl h)) = searched_out status.No h.0 files out tt h.2
+answering_out d list splits files out (inr (inr h)) = searched_out status.Spent h.0 files out tt h.2
+
+-- ways to stop of `solve` agree
+pub agree_solving : (files : Files) (job : Solve) → AreAlike files Agree (Solving job) (Solving job)
+agree_solving files job =
+    alike_both files Agree agree_is job.model job.requests (SolvingList job.splits) (SolvingList job.splits)
+    (λ d list. alike_problem files Agree agree_is d list (Answering d list job.splits) (Answering d list job.splits)
+    (λ given other out end hg ho sg so p q. inr (answering_out d list job.splits given out p, answering_out d list job.splits other end q)))
+
+-- ---- the commands
+
+-- a command that doesn't search
+abbrev pub IsPlain : Job → Type 0
+IsPlain (solve job) = ⊥
+IsPlain _ = Unit {0}
+
+pub single_doing : (files : Files) (job : Job) → IsPlain job → IsSingle files (Doing job)
+single_doing files (solve job) plain = absurd plain
+single_doing files (check job) plain = single_both files job.model job.requests (CheckingList job.log) (single_checking files job.log)
+single_doing files (replay job) plain =
     single_both files job.model job.requests (λ d list. OnFile file.Image job.image (JudgingBytes d list))
     (λ d list. single_file files file.Image job.image (JudgingBytes d list) (λ bytes. single_image files d list bytes (Judging d list) (single_judging files d list)))
-single_doing files (walk job) =
+single_doing files (walk job) plain =
     single_file files file.Image job.image (WalkingBytes (shipped_data job.model))
     (λ bytes. single_model_image files (shipped_data job.model) bytes (λ i. Answered status.Good (walks_text (shipped_data job.model) i)) (λ i. single_answered files status.Good (walks_text (shipped_data job.model) i)))
-single_doing files (model job) = single_answered files status.Good (printed (shipped_data job.model))
+single_doing files (model job) plain = single_answered files status.Good (printed (shipped_data job.model))

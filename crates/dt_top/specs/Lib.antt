@@ -3,8 +3,7 @@ pub mod Code
 pub mod Files
 pub mod Lines
 pub mod Replies
-pub mod Zeros
-pub mod Record
+pub mod Answers
 pub mod Course
 pub mod Stages
 pub mod Models

@@ -6,6 +6,7 @@ use Rattle.dt_top.specs.declared.file.File.{File}
 use Rattle.dt_top.specs.declared.reply.Text.{Text}
 use Rattle.dt_top.specs.declared.reply.Text.TheVariants.{Line, Made}
 use Rattle.dt_top.specs.declared.reply.Reply.{Reply}
+use Rattle.dt_top.specs.declared.status.Status.{Status}
 use Rattle.dt_top.specs.declared.status.Status.TheVariants as status
 
 abbrev pub bytes_of : Text → List ℕ
@@ -21,3 +22,7 @@ abbrev pub IsRefusedLine : File → Option ℕ → List ℕ → Reply → Type 0
 IsRefusedLine file line cause reply =
     IsWant reply
     ⊎ ((number : ℕ) × (line ≡ Some number) × (reply.status ≡ refused_status file) × (bytes_of reply.text ≡ bad_line (file_word file) number cause))
+
+-- memory ran out, or this is the status and the text
+abbrev pub IsReplyOrWant : Status → List ℕ → Reply → Type 0
+IsReplyOrWant due text reply = IsWant reply ⊎ ((reply.status ≡ due) × (bytes_of reply.text ≡ text))

@@ -1,5 +1,5 @@
 -- What the bytes of a file are to a command: a text that is refused with one line, or what it goes on with.
-use Rattle.std.specs.Prelude.{ℕ, ◌≡◌, ◌⊎◌, List, Some, Ok, Err, codes}
+use Rattle.std.specs.Prelude.{ℕ, ◌≡◌, ◌⊎◌, List, Some, None, Ok, Err, codes}
 use Rattle.dt_model.specs.ModelData.{ModelData}
 use Rattle.dt_modeltext.specs.declared.fault.ModelFault.{ModelFault}
 use Rattle.dt_modeltext.specs.Read.{IsModelText, RefusesText}
@@ -11,7 +11,13 @@ use Rattle.dt_image.specs.declared.fault.ImageFault.{ImageFault}
 use Rattle.dt_image.specs.declared.image.Image.{Image}
 use Rattle.dt_image.specs.Read.{reading}
 use Rattle.dt_satisfy.specs.Satisfies.{Matches}
-use Rattle.dt_top.specs.Lines.{bad_line}
+use Rattle.dt_log.specs.declared.fault.LogFault.{LogFault}
+use Rattle.dt_log.specs.Fault.{line_of as log_line, item_of as log_item, word_of as log_word}
+use Rattle.dt_log.specs.Read.{LogData, reading as log_in}
+use Rattle.dt_encode.specs.declared.fault.Quantity3.{Quantity3}
+use Rattle.dt_encode.specs.declared.fault.EncodeFault.TheVariants.{TooLarge}
+use Rattle.dt_encode.specs.SizeFault.{size_fault}
+use Rattle.dt_top.specs.Lines.{bad_line, tree_line, too_large_line}
 use Rattle.dt_modeltext.specs.Fault.{line_of as model_line, word_of as model_word}
 use Rattle.dt_image.specs.Fault.{line_of as image_line, word_of as image_word}
 use Rattle.dt_top.specs.Course.{FileRead, Outcome, Answered}
@@ -88,3 +94,36 @@ abbrev pub OnImage : ModelData → Requests → List ℕ → (Image → List Fil
 OnImage d list bytes next files outcome =
     ((text : List ℕ) × IsRefusedImage d list bytes text × Answered status.InputRefused text files outcome)
     ⊎ ((i : Image) × IsMatching d list bytes i × next i files outcome)
+
+-- ---- the size of a list's problem
+
+-- a product of the list is above its limit, and this is the line that says so
+pub record IsTooLarge (d : ModelData) (list : Requests) (text : List ℕ) : Type 0 where
+  pub what : Quantity3
+  pub number : ℕ
+  pub product : size_fault d list ≡ Some (TooLarge what number)
+  pub line : text ≡ too_large_line what number
+
+-- the list is within the limits
+abbrev pub HasProblem : ModelData → Requests → Type 0
+HasProblem d list = size_fault d list ≡ None
+
+abbrev pub OnProblem : ModelData → Requests → (List FileRead → Outcome → Type 0) → List FileRead → Outcome → Type 0
+OnProblem d list next files outcome =
+    ((text : List ℕ) × IsTooLarge d list text × Answered status.TooLarge text files outcome)
+    ⊎ (HasProblem d list × next files outcome)
+
+-- ---- a log
+
+-- the bytes have a first bad line, or a first item where no tree can go on, and this is the line that says so
+pub record IsRefusedLog (bytes text : List ℕ) : Type 0 where
+  pub fault : LogFault
+  pub number : ℕ
+  pub refused : log_in bytes ≡ Err fault
+  pub line : ((log_line fault ≡ Some number) × (text ≡ bad_line (codes "log") number (log_word fault)))
+      ⊎ ((log_item fault ≡ Some number) × (text ≡ tree_line number))
+
+abbrev pub OnLog : List ℕ → (LogData → List FileRead → Outcome → Type 0) → List FileRead → Outcome → Type 0
+OnLog bytes next files outcome =
+    ((text : List ℕ) × IsRefusedLog bytes text × Answered status.InputRefused text files outcome)
+    ⊎ ((log : LogData) × (log_in bytes ≡ Ok log) × next log files outcome)

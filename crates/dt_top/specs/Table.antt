@@ -6,7 +6,7 @@ use Rattle.dt_top.specs.Course.{FileRead, Outcome, answers, needs}
 use Rattle.dt_top.specs.Files.{limit_of}
 use Rattle.dt_top.specs.Lines.{read_fault_line, too_long_line}
 use Rattle.dt_top.specs.Seen.{Seen, IsQuiet, IsUnread, IsTooLong, HasAll, names_of, AsksThese, AsksFirst}
-use Rattle.dt_top.specs.commands.Jobs.{Job, job_of, files_of, Doing}
+use Rattle.dt_top.specs.commands.Jobs.{Job, solve, job_of, files_of, Doing}
 use Rattle.dt_top.specs.declared.file.File.{File}
 use Rattle.dt_top.specs.declared.status.Status.{Status}
 use Rattle.dt_top.specs.declared.status.Status.TheVariants as status
@@ -80,6 +80,18 @@ in_files wanted files = record {
 abbrev pub Expected : List (List ℕ) → Files → Status → List ℕ → Type 0
 Expected words files came text = JobEnds (λ names. in_files ⊥ files) (job_of words) came text
 
+-- a search may end with any of its answers
+abbrev pub IsSearched : Status → Type 0
+IsSearched status.Good = Unit {0}
+IsSearched status.No = Unit {0}
+IsSearched status.Spent = Unit {0}
+IsSearched _ = ⊥
+
+-- words and files fix the text of this status: they do so but for the answers of a search
+abbrev pub IsFixed : Option Job → Status → Type 0
+IsFixed (Some (solve job)) due = IsSearched due → ⊥
+IsFixed _ due = Unit {0}
+
 -- ---- the table of a call over bytes
 
 -- no file is read
@@ -104,6 +116,10 @@ IsMemoryOrWriteFault came = (came ≡ status.Memory) ⊎ (came ≡ status.WriteF
 -- this status came and this text was written, unless memory ran out or a write failed
 abbrev pub Comes : Status → List ℕ → Status → Option (List ℕ) → Option (List ℕ) → Type 0
 Comes due want came old new = ((came ≡ due) × (new ≡ after old want)) ⊎ IsMemoryOrWriteFault came
+
+-- this status came with one of the texts that the row allows, which was written, unless memory ran out or a write failed
+abbrev pub ComesAmong : (Status → List ℕ → Type 0) → Status → Option (List ℕ) → Option (List ℕ) → Type 0
+ComesAmong rows came old new = ((text : List ℕ) × rows came text × (new ≡ after old text)) ⊎ IsMemoryOrWriteFault came
 
 -- A text that the row allows was appended whole, in pieces.
 abbrev pub Writes : (List ℕ → Type 0) → Option (List ℕ) → Option (List ℕ) → Option (List (List ℕ)) → Option (List (List ℕ)) → Type 0

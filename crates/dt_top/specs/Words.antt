@@ -8,10 +8,6 @@ abbrev pub is_file_name : List ℕ → Bool
 is_file_name [] = false
 is_file_name (b ∷ bytes) = not (b == 64)
 
-abbrev pub is_zero : Option ℕ → Bool
-is_zero None = false
-is_zero (Some n) = n == 0
-
 -- a number below 2^64
 abbrev pub word_number : List ℕ → Option ℕ
 word_number word = option_and_then (λ n. if nat_lt n (2 ^ 64) then Some n else None) (number_of word)

@@ -1,18 +1,20 @@
 // All that the program does.
-ghost use Rattle.std.specs.Prelude.{◌≡◌, ◌≢◌, ◌≤◌, ◌⊎◌, ℕ, List, Option, Some, None, map};
+ghost use Rattle.std.specs.Prelude.{◌≡◌, ◌≢◌, ◌≤◌, ◌+◌, ◌^◌, ◌⊎◌, ℕ, List, Option, Some, None, Ok, map};
 ghost use Rattle.std.specs.String.{string_bytes};
 ghost use Rattle.dt_edge.specs.Causes.{Rose};
 ghost use Rattle.dt_model.specs.ModelData.{ModelData};
+ghost use Rattle.dt_request.specs.Choices.{choice_bits};
 ghost use Rattle.dt_request.specs.declared.list.Requests.{Requests};
+ghost use Rattle.dt_log.specs.Read.{LogData, reading as log_in};
 ghost use Rattle.dt_image.specs.declared.image.Image.{Image};
-ghost use Rattle.dt_top.specs.Headline.{AskedFor, IsAnswer, AskedToJudge, IsJudgement, AskedToWalk, AskedToPrint};
+ghost use Rattle.dt_top.specs.Headline.{AskedFor, IsAnswer, IsDecision, AskedToCheck, IsChecked, IsAgreed, AskedToJudge, IsJudgement, AskedToWalk, AskedToPrint};
 ghost use Rattle.dt_top.specs.Models.{shipped_data};
 ghost use Rattle.dt_top.specs.declared.models.Shipped.{Shipped};
 ghost use Rattle.dt_modeltext.specs.Print.{printed};
 ghost use Rattle.dt_walktext.specs.Printed.{walks_text};
 ghost use Rattle.dt_top.specs.Replies.{bytes_of};
 ghost use Rattle.dt_top.specs.Seen.{seen, StaysShelf};
-ghost use Rattle.dt_top.specs.Table.{Row, Files, Expected, Comes, Writes, WritesPart};
+ghost use Rattle.dt_top.specs.Table.{Row, Files, Expected, IsFixed, Comes, ComesAmong, Writes, WritesPart};
 ghost use Rattle.dt_top.specs.commands.Jobs.{job_of};
 ghost use Rattle.dt_top.specs.declared.status.Status.{Status as Came};
 
@@ -63,19 +65,50 @@ pub fn run<S: Shelf, K: Sink>(
         → S.faults shelf.new ≡ S.faults shelf.old }
     ensures writes { result ≢ Status.WriteFault → K.faults sink.new ≡ K.faults sink.old }
 
-    // Where the shelf tells its files and no read failed, status and text are exactly the ones that
-    // words and files have, unless memory ran out or a write failed.
+    // Where the shelf tells its files and no read failed, status and text are among those that words
+    // and files have, unless memory ran out or a write failed.
+    ensures among { (files : Files) → S.told shelf.old ≡ Some files
+        → ¬ Rose (S.faults shelf.old) (S.faults shelf.new)
+        → ComesAmong (Expected (map string_bytes words.now) files) result
+        (K.written sink.old) (K.written sink.new) }
+
+    // There, words and files fix them but for the answers of a search: each refusal comes exactly
+    // where it is due, and so does each answer of the other commands.
     ensures exact { (files : Files) → S.told shelf.old ≡ Some files
         → ¬ Rose (S.faults shelf.old) (S.faults shelf.new)
-        → (due : Came) (want : List ℕ) → Expected (map string_bytes words.now) files due want
+        → (due : Came) (want : List ℕ) → IsFixed (job_of (map string_bytes words.now)) due
+        → Expected (map string_bytes words.now) files due want
         → Comes due want result (K.written sink.old) (K.written sink.new) }
 
-    // The headline: for an accepted model and a list for it, where no read failed, the answer is the
-    // image of zeros exactly where that image meets the list, and else the record that it was tried.
-    ensures headline { (files : Files) (d : ModelData) (list : Requests) → S.told shelf.old ≡ Some files
-        → ¬ Rose (S.faults shelf.old) (S.faults shelf.new)
-        → AskedFor (map string_bytes words.now) files d list
-        → IsAnswer d list result (K.written sink.old) (K.written sink.new) }
+    // The headline: for an accepted model and a list for it that is within the limits, where no read
+    // failed, an image that meets the list was printed; or a log that refutes the problem of the list,
+    // and no image meets it; or the record of a search that took exactly as many splits as it may.
+    ensures headline { (files : Files) (d : ModelData) (list : Requests) (splits : ℕ)
+        → S.told shelf.old ≡ Some files → ¬ Rose (S.faults shelf.old) (S.faults shelf.new)
+        → AskedFor (map string_bytes words.now) files d list splits
+        → IsAnswer d list splits result (K.written sink.old) (K.written sink.new) }
+
+    // The decision: with at least 2^C - 1 splits, C being the number of bits of all choices, an image
+    // is printed exactly where one meets the list, and else a refutation.
+    ensures decision { (files : Files) (d : ModelData) (list : Requests) (splits : ℕ)
+        → S.told shelf.old ≡ Some files → ¬ Rose (S.faults shelf.old) (S.faults shelf.new)
+        → AskedFor (map string_bytes words.now) files d list splits
+        → 2 ^ choice_bits d list ≤ splits + 1 → IsDecision d list result }
+
+    // The checker: for an accepted model, a list for it that is within the limits and the text of a
+    // log, where no read failed, the answer is closed exactly where the log refutes the problem of the
+    // list, open exactly where it is a record, and else the first item with a cause.
+    ensures checks { (files : Files) (d : ModelData) (list : Requests) (text : List ℕ) (log : LogData)
+        → S.told shelf.old ≡ Some files → ¬ Rose (S.faults shelf.old) (S.faults shelf.new)
+        → AskedToCheck (map string_bytes words.now) files d list text → log_in text ≡ Ok log
+        → IsChecked d list log result (K.written sink.old) (K.written sink.new) }
+
+    // End to end: what `solve` prints where it finds no image, `check` closes, or finds open after as
+    // many splits.
+    ensures agrees { (files : Files) (d : ModelData) (list : Requests) (text : List ℕ)
+        → S.told shelf.old ≡ Some files → ¬ Rose (S.faults shelf.old) (S.faults shelf.new)
+        → AskedToCheck (map string_bytes words.now) files d list text
+        → IsAgreed d list text result (K.written sink.old) (K.written sink.new) }
 
     // The judge: for an accepted model, a list for it and an image that matches the list, where no
     // read failed, the answer is yes exactly where the image meets the list, and else no.

@@ -1,13 +1,14 @@
 // What is printed, with its status.
 ghost use Rattle.std.specs.Prelude.{◌≡◌, IfOk};
 ghost use Rattle.dt_top.specs.Files.{file_word};
-ghost use Rattle.dt_top.specs.Lines.{bad_line};
-ghost use Rattle.dt_top.specs.Replies.{bytes_of, IsWant, IsRefusedLine};
+ghost use Rattle.dt_top.specs.Lines.{bad_line, tree_line, quantity_word, too_large_line};
+ghost use Rattle.dt_top.specs.Replies.{bytes_of, IsWant, IsReplyOrWant, IsRefusedLine};
 
 use crate::file::File;
 use crate::status::Status;
 use dt_bits::NoMemory;
-use dt_lex::push_decimal;
+use dt_encode::Quantity3;
+use dt_lex::{Piece, push_decimal, push_row};
 use std::alloc::Global;
 
 /// A text to print.
@@ -82,6 +83,26 @@ impl Reply {
             Err(_) => Reply::no_memory(),
         }
     }
+
+    /// The refusal of a log's text, by the first item where no tree can go on.
+    pub fn no_tree(alloc: Global, item: u32) -> Reply
+        ensures { IsReplyOrWant Status.InputRefused (tree_line item) result }
+    {
+        match tree_line(alloc, item) {
+            Ok(text) => Reply::made(Status::InputRefused, text),
+            Err(_) => Reply::no_memory(),
+        }
+    }
+
+    /// The refusal of a list, by the first product that is above its limit.
+    pub fn too_large(alloc: Global, what: Quantity3, number: u64) -> Reply
+        ensures { IsReplyOrWant Status.TooLarge (too_large_line what number) result }
+    {
+        match too_large_line(alloc, what, number) {
+            Ok(text) => Reply::made(Status::TooLarge, text),
+            Err(_) => Reply::no_memory(),
+        }
+    }
 }
 
 // The line that names a file's first bad line.
@@ -95,5 +116,52 @@ fn bad_line(alloc: Global, file: File, line: u32, cause: &str) -> Result<Vec<u8>
     out.push(b' ')?;
     out.extend_from_slice(cause.as_bytes())?;
     out.push(b'\n')?;
+    Ok(out)
+}
+
+// The line that names the first item where no tree can go on.
+fn tree_line(alloc: Global, item: u32) -> Result<Vec<u8>, NoMemory>
+    ensures { IfOk result (λ text. text.items ≡ tree_line item) }
+{
+    let mut out = Vec::new(alloc);
+    push_row(
+        &mut out,
+        b"refused",
+        &[
+            Piece::Word(b"log"),
+            Piece::Word(b"item"),
+            Piece::Decimal(u128::from(item)),
+            Piece::Word(b"tree"),
+        ],
+    )?;
+    Ok(out)
+}
+
+// The word for a product in a printed line.
+fn quantity_word(what: Quantity3) -> &'static str
+    ensures { result.now ≡ quantity_word what }
+{
+    match what {
+        Quantity3::Reads => "reads",
+        Quantity3::Dones => "dones",
+        Quantity3::Terms => "terms",
+    }
+}
+
+// The line that names the first product above its limit.
+fn too_large_line(alloc: Global, what: Quantity3, number: u64) -> Result<Vec<u8>, NoMemory>
+    ensures { IfOk result (λ text. text.items ≡ too_large_line what number) }
+{
+    let mut out = Vec::new(alloc);
+    let word = quantity_word(what).as_bytes();
+    push_row(
+        &mut out,
+        b"too",
+        &[
+            Piece::Word(b"large"),
+            Piece::Word(word),
+            Piece::Decimal(u128::from(number)),
+        ],
+    )?;
     Ok(out)
 }

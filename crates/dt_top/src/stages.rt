@@ -1,24 +1,31 @@
-// What the bytes of files are: a model, a list for it, an image that matches the list.
-ghost use Rattle.std.specs.Prelude.{◌≡◌, ◌≤◌, length, Ok, IfOk, IfErr};
+// What the bytes of files are: a model, a list for it, an image that matches the list, a log; and
+// the problem of a list.
+ghost use Rattle.std.specs.Prelude.{◌≡◌, ◌≤◌, ◌<◌, ◌^◌, length, Ok, IfOk, IfErr, OnOk};
 ghost use Rattle.dt_model.specs.Accepted.{accepted_data};
 ghost use Rattle.dt_modeltext.specs.Read.{IsModelText};
 ghost use Rattle.dt_request.specs.Lists.{IsList};
 ghost use Rattle.dt_image.specs.Images.{IsImage};
+ghost use Rattle.dt_log.specs.Read.{reading as log_in};
+ghost use Rattle.dt_encode.specs.Encoding.{TakesImages, HasChoices};
+ghost use Rattle.dt_table.specs.Table.{table};
 ghost use Rattle.dt_top.specs.Course.{Never};
 ghost use Rattle.dt_top.specs.Files.{limit_of};
 ghost use Rattle.dt_top.specs.Replies.{bytes_of};
-ghost use Rattle.dt_top.specs.Stages.{OnModel, IsRequests, OnRequests, IsMatching, OnImage, OnModelImage};
+ghost use Rattle.dt_top.specs.Stages.{OnModel, IsRequests, OnRequests, IsMatching, OnImage, OnModelImage, HasProblem, OnProblem, OnLog};
 ghost use Rattle.dt_image.specs.Read.{reading};
 ghost use Rattle.dt_top.specs.Table.{Replies};
 
 use crate::file::File;
 use crate::reply::Reply;
 use crate::status::Status;
+use dt_encode::{EncodeFault, encode};
 use dt_image::{Image, read_image};
+use dt_log::{Log, read_log};
 use dt_model::Accepted;
 use dt_modeltext::read_model;
 use dt_request::{Requests, read_requests};
 use dt_satisfy::matches;
+use dt_terms::Problem;
 use std::alloc::Global;
 
 /// The accepted model that a file's bytes spell, or the refusal of the bytes.
@@ -87,5 +94,40 @@ pub fn model_image(alloc: Global, model: &Accepted, bytes: &[u8]) -> Result<Imag
     match read_image(alloc, model, bytes) {
         Ok(image) => Ok(image),
         Err(fault) => Err(Reply::refused(alloc, File::Image, fault.line(), fault.word())),
+    }
+}
+
+/// The problem of a list for a model, or the refusal of a list that is too large.
+pub fn list_problem(alloc: Global, model: &Accepted, list: &Requests) -> Result<Problem, Reply>
+    requires { IsList (accepted_data model.now) list.now }
+    ensures problem { IfOk result (λ p. p ≡ table (accepted_data model.now) list.now) }
+    ensures takes { IfOk result (TakesImages (accepted_data model.now) list.now) }
+    ensures choices { IfOk result (HasChoices (accepted_data model.now) list.now) }
+    ensures within { OnOk result (HasProblem (accepted_data model.now) list.now) }
+    ensures refused { IfErr result (λ reply.
+        Replies (OnProblem (accepted_data model.now) list.now Never)
+        reply.status (bytes_of reply.text)) }
+{
+    match encode(alloc, model, list) {
+        Ok(problem) => Ok(problem),
+        Err(EncodeFault::TooLarge { what, number }) => Err(Reply::too_large(alloc, what, number)),
+        Err(EncodeFault::Memory) => Err(Reply::no_memory()),
+    }
+}
+
+/// The log that a file's bytes spell, or the refusal of the bytes.
+pub fn problem_log(alloc: Global, bytes: &[u8]) -> Result<Log, Reply>
+    requires { length bytes.now ≤ limit_of File.Log }
+    ensures text { IfOk result (λ log. log_in bytes.now ≡ Ok (log.claim, log.lines)) }
+    ensures few { IfOk result (λ log. length log.lines < 2 ^ 32) }
+    ensures refused { IfErr result (λ reply. Replies (OnLog bytes.now (λ log. Never))
+        reply.status (bytes_of reply.text)) }
+{
+    match read_log(alloc, bytes) {
+        Ok(log) => Ok(log),
+        Err(fault) => match fault.item() {
+            Some(item) => Err(Reply::no_tree(alloc, item)),
+            None => Err(Reply::refused(alloc, File::Log, fault.line(), fault.word())),
+        },
     }
 }

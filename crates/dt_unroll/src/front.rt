@@ -16,7 +16,7 @@ pub struct Front {
 }
 
 impl Front {
-    ghost use Rattle.std.specs.Prelude.{◌≡◌, ◌<◌, ◌+◌, IfOk, OnOk, length};
+    ghost use Rattle.std.specs.Prelude.{◌≡◌, ◌<◌, ◌≤◌, ◌+◌, ◌^◌, IfOk, OnOk, OnErr, length};
     ghost use Rattle.dt_table.specs.Passing.{join, assign, part, noted};
     ghost use Rattle.dt_terms.specs.Problem.{ProblemData};
     ghost use Rattle.dt_table.specs.Table.{first_state};
@@ -100,6 +100,7 @@ impl Front {
     /// The word of a read, after which the next read has the next word.
     pub fn next_word(&mut self) -> Result<u32, NoMemory>
         ensures word { IfOk result (λ w. w ≡ self.old.word) }
+        ensures too_large { OnErr result (2 ^ 32 ≤ self.old.word + 1) }
         ensures next { OnOk result (self.new ≡ record self.old { word = self.old.word + 1 }) }
     {
         let word = self.word;

@@ -17,7 +17,7 @@ pub struct Layout {
 }
 
 impl Layout {
-    ghost use Rattle.std.specs.Prelude.{◌≡◌, ◌+◌, ◌*◌, IfOk, count_by};
+    ghost use Rattle.std.specs.Prelude.{◌≡◌, ◌≤◌, ◌+◌, ◌*◌, ◌^◌, IfOk, OnErr, count_by};
     ghost use Rattle.dt_model.specs.Accepted.{accepted_data};
     ghost use Rattle.dt_model.specs.ModelData.{act_of};
     ghost use Rattle.dt_model.specs.Faults.{is_read};
@@ -52,14 +52,16 @@ impl Layout {
 
     /// Where the registers of a context stand.
     pub fn regs_at(&self, context: u32) -> Result<u32, NoMemory>
-        ensures { IfOk result (λ t. t ≡ context * self.now.regs) }
+        ensures value { IfOk result (λ t. t ≡ context * self.now.regs) }
+        ensures too_large { OnErr result (2 ^ 32 ≤ context * self.now.regs) }
     {
         product(context, self.regs)
     }
 
     /// Where the inputs of an access stand.
     pub fn inputs_at(&self, access: u32) -> Result<u32, NoMemory>
-        ensures { IfOk result (λ t. t ≡ self.now.first + access * self.now.step) }
+        ensures value { IfOk result (λ t. t ≡ self.now.first + access * self.now.step) }
+        ensures too_large { OnErr result (2 ^ 32 ≤ self.now.first + access * self.now.step) }
     {
         total(self.first, product(access, self.step)?)
     }

@@ -1,17 +1,13 @@
--- `solve MODEL REQUESTS 0 SEED`, which is without splits: the image of zeros where it meets the list, and else the record that it was tried.
-use Rattle.std.specs.Prelude.{ℕ, ◌⊎◌, List, [], ◌∷◌, ◌++◌, Option, None, ◌&&◌, if◌then◌else◌}
+-- `solve MODEL REQUESTS SPLITS SEED`: an image that meets the list, or a refutation of its problem, or the record of a search that ended after as many splits as it may take.
+use Rattle.std.specs.Prelude.{ℕ, ◌⊎◌, List, [], ◌∷◌, ◌++◌, Option, None, if◌then◌else◌}
 use Rattle.std.specs.Option.{option_map, option_and_then}
-use Rattle.dt_lex.specs.Numeral.{number_of}
 use Rattle.dt_model.specs.ModelData.{ModelData}
-use Rattle.dt_request.specs.Choices.{choice_count}
 use Rattle.dt_request.specs.declared.list.Requests.{Requests}
-use Rattle.dt_image.specs.Print.{printed}
-use Rattle.dt_satisfy.specs.Satisfies.{Satisfies}
-use Rattle.dt_top.specs.Words.{is_file_name, is_zero, word_number}
-use Rattle.dt_top.specs.Zeros.{zero_image}
-use Rattle.dt_top.specs.Record.{zero_record}
+use Rattle.dt_top.specs.Words.{is_file_name, word_number}
+use Rattle.dt_top.specs.Answers.{IsStimulus, IsRefutation, IsRecord}
 use Rattle.dt_top.specs.Course.{FileRead, Outcome, Answered}
 use Rattle.dt_top.specs.Models.{ModelAsked, model_of, model_asked, model_files, OnModelAndList}
+use Rattle.dt_top.specs.Stages.{OnProblem}
 use Rattle.dt_top.specs.declared.commands.solve.SolveJob.{SolveJob}
 use Rattle.dt_top.specs.declared.status.Status.TheVariants as status
 
@@ -20,18 +16,23 @@ use Rattle.dt_top.specs.declared.status.Status.TheVariants as status
 pub record Solve : Type 0 where
   pub model : ModelAsked
   pub requests : List ℕ
+  pub splits : ℕ
   pub seed : ℕ
+
+-- what words and numbers ask for
+abbrev pub solve_with : List ℕ → List ℕ → ℕ → ℕ → Option Solve
+solve_with model requests splits seed = option_map (λ m. record { model = m; requests = requests; splits = splits; seed = seed }) (model_of model)
 
 -- what the words after the command's name ask for
 abbrev pub solve_of : List (List ℕ) → Option Solve
 solve_of (model ∷ requests ∷ splits ∷ seed ∷ []) =
-    if is_file_name requests && is_zero (number_of splits)
-    then option_and_then (λ n. option_map (λ m. record { model = m; requests = requests; seed = n }) (model_of model)) (word_number seed) else None
+    if is_file_name requests
+    then option_and_then (λ limit. option_and_then (λ n. solve_with model requests limit n) (word_number seed)) (word_number splits) else None
 solve_of _ = None
 
 -- what the code asks for
 abbrev pub solve_asked : SolveJob → Solve
-solve_asked job = record { model = model_asked job.model; requests = job.requests.now; seed = job.seed }
+solve_asked job = record { model = model_asked job.model; requests = job.requests.now; splits = job.splits; seed = job.seed }
 
 -- ---- its files, in order
 
@@ -40,15 +41,16 @@ solve_files job = model_files job.model ++ job.requests ∷ []
 
 -- ---- its answer
 
--- the image of zeros meets the list
-abbrev pub ZerosSatisfy : ModelData → Requests → Type 0
-ZerosSatisfy d list = Satisfies d list (zero_image d list)
+-- the text of an image that meets the list, or that of a refutation, or the record of exactly so many splits
+abbrev pub Answering : ModelData → Requests → ℕ → List FileRead → Outcome → Type 0
+Answering d list splits files outcome =
+    ((text : List ℕ) × IsStimulus d list text × Answered status.Good text files outcome)
+    ⊎ (((text : List ℕ) × IsRefutation d list text × Answered status.No text files outcome)
+    ⊎ ((text : List ℕ) × IsRecord d list splits text × Answered status.Spent text files outcome))
 
--- its text where it does, and else the record
-abbrev pub Trying : ModelData → Requests → List FileRead → Outcome → Type 0
-Trying d list files outcome =
-    (ZerosSatisfy d list × Answered status.Good (printed (zero_image d list)) files outcome)
-    ⊎ ((ZerosSatisfy d list → ⊥) × Answered status.Spent (zero_record (choice_count d list)) files outcome)
+-- what a model and a list come to
+abbrev pub SolvingList : ℕ → ModelData → Requests → List FileRead → Outcome → Type 0
+SolvingList splits d list = OnProblem d list (Answering d list splits)
 
 abbrev pub Solving : Solve → List FileRead → Outcome → Type 0
-Solving job = OnModelAndList job.model job.requests Trying
+Solving job = OnModelAndList job.model job.requests (SolvingList job.splits)

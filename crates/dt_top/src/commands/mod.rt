@@ -7,12 +7,14 @@ ghost use Rattle.dt_top.specs.Seen.{seen, StaysShelf};
 ghost use Rattle.dt_top.specs.Table.{in_call, Ends};
 ghost use Rattle.dt_top.specs.commands.Jobs.{job_of, asked, files_of, Doing};
 
+mod check;
 mod model;
 mod replay;
 mod solve;
 mod walk;
 
 use crate::reply::Reply;
+pub use check::{CheckJob, log_reply};
 use dt_edge::Shelf;
 pub use model::{ModelJob, print_reply};
 pub use replay::{ReplayJob, image_reply};
@@ -23,8 +25,10 @@ pub use walk::{WalkJob, walk_reply};
 /// A command with its words.
 #[derive(Clone, Copy)]
 pub enum Job<'a> {
-    /// `solve` without splits.
+    /// `solve` a list.
     Solve(SolveJob<'a>),
+    /// `check` of a log.
+    Check(CheckJob<'a>),
     /// `replay` of an image.
     Replay(ReplayJob<'a>),
     /// `walk` of an image.
@@ -41,6 +45,7 @@ impl<'a> Job<'a> {
         match words {
             [command, words @ ..] => match command.as_str() {
                 "solve" => solve::form(words).map(Job::Solve),
+                "check" => check::form(words).map(Job::Check),
                 "replay" => replay::form(words).map(Job::Replay),
                 "walk" => walk::form(words).map(Job::Walk),
                 "model" => model::job(words),
@@ -59,6 +64,7 @@ pub fn perform<S: Shelf>(alloc: Global, shelf: &mut S, job: Job<'_>) -> Reply
 {
     match job {
         Job::Solve(job) => solve::perform(alloc, shelf, job),
+        Job::Check(job) => check::perform(alloc, shelf, job),
         Job::Replay(job) => replay::perform(alloc, shelf, job),
         Job::Walk(job) => walk::perform(alloc, shelf, job),
         Job::Model(job) => print_reply(alloc, job.model),

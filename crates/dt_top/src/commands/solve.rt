@@ -1,35 +1,43 @@
-// `solve` without splits: the image of zeros, judged.
-ghost use Rattle.std.specs.Prelude.{◌≡◌, ◌∷◌, [], map, IfOk};
+// `solve`: an image that meets a list, a refutation, or the record of a search.
+ghost use Rattle.std.specs.Prelude.{◌≡◌, ◌∷◌, [], true, map, IfOk};
 ghost use Rattle.std.specs.Option.{option_map};
 ghost use Rattle.std.specs.String.{string_bytes};
 ghost use Rattle.dt_model.specs.Accepted.{accepted_data};
 ghost use Rattle.dt_request.specs.Lists.{IsList};
+ghost use Rattle.dt_encode.specs.Encoding.{TakesImages, HasChoices};
+ghost use Rattle.dt_table.specs.Table.{table};
+ghost use Rattle.dt_terms.specs.Values.{IsAssignment, solves};
+ghost use Rattle.dt_top.specs.Answers.{IsStimulus};
 ghost use Rattle.dt_top.specs.Replies.{bytes_of};
 ghost use Rattle.dt_top.specs.Seen.{seen, StaysShelf};
 ghost use Rattle.dt_top.specs.Table.{in_call, Ends, Replies};
-ghost use Rattle.dt_top.specs.commands.Solve.{solve_of, solve_asked, solve_files, Solving, Trying};
+ghost use Rattle.dt_top.specs.commands.Solve.{solve_of, solve_asked, solve_files, Solving, SolvingList, Answering};
 
 use crate::models::{ModelWord, model_word};
 use crate::reading::model_and_list;
-use crate::record::zero_record;
 use crate::reply::Reply;
+use crate::stages::list_problem;
 use crate::status::Status;
 use crate::words::{is_file_name, word_number};
-use crate::zeros::zero_image;
 use dt_bits::NoMemory;
 use dt_edge::Shelf;
+use dt_encode::image_of;
 use dt_image::print_image;
-use dt_lex::number;
+use dt_log::print_log;
 use dt_model::Accepted;
-use dt_request::{Requests, choice_count};
-use dt_satisfy::{Judged, judge};
+use dt_pair::Pair;
+use dt_request::Requests;
+use dt_solve::{Outcome, Picks, search};
+use dt_terms::Problem;
 use std::alloc::Global;
 
-/// The words of `solve` without splits: a model, the name of a file, and a seed.
+/// The words of `solve`: a model, the name of a file, how many splits the search may take, and a
+/// seed.
 #[derive(Clone, Copy)]
 pub struct SolveJob<'a> {
     pub model: ModelWord<'a>,
     pub requests: &'a str,
+    pub splits: u64,
     pub seed: u64,
 }
 
@@ -55,9 +63,10 @@ fn named<'a>(model: &'a str, requests: &'a str, splits: &str, seed: &str) -> Opt
     if !is_file_name(requests) {
         return None;
     }
-    if number(splits.as_bytes()) != Some(0) {
-        return None;
-    }
+    let splits = match word_number(splits) {
+        Some(splits) => splits,
+        None => return None,
+    };
     let seed = match word_number(seed) {
         Some(seed) => seed,
         None => return None,
@@ -66,36 +75,74 @@ fn named<'a>(model: &'a str, requests: &'a str, splits: &str, seed: &str) -> Opt
         Some(model) => Some(SolveJob {
             model,
             requests,
+            splits,
             seed,
         }),
         None => None,
     }
 }
 
-fn tried(alloc: Global, model: &Accepted, list: &Requests) -> Result<Reply, NoMemory>
+// The text of the image that these numbers tell, which solve the problem of the list.
+fn image_text(
+    alloc: Global,
+    model: &Accepted,
+    list: &Requests,
+    numbers: &[u128],
+) -> Result<Vec<u8>, NoMemory>
     requires list { IsList (accepted_data model.now) list.now }
-    ensures { IfOk result (λ reply.
-        Replies (Trying (accepted_data model.now) list.now) reply.status (bytes_of reply.text)) }
+    requires assignment { IsAssignment (table (accepted_data model.now) list.now).terms numbers.now }
+    requires solves { solves (table (accepted_data model.now) list.now) numbers.now ≡ true }
+    ensures { IfOk result (λ text. IsStimulus (accepted_data model.now) list.now text.items) }
 {
-    let image = zero_image(alloc, model, list)?;
-    match judge(alloc, model, list, &image)? {
-        Judged::Satisfies => {
-            let text = print_image(alloc, model, &image)?;
+    let image = image_of(alloc, model, list, numbers)?;
+    print_image(alloc, model, &image)
+}
+
+// The answer of a search with at most so many splits on the problem of the list.
+fn searched(
+    alloc: Global,
+    model: &Accepted,
+    list: &Requests,
+    problem: &Problem,
+    splits: u64,
+) -> Result<Reply, NoMemory>
+    requires list { IsList (accepted_data model.now) list.now }
+    requires problem { problem.now ≡ table (accepted_data model.now) list.now }
+    requires takes { TakesImages (accepted_data model.now) list.now problem.now }
+    requires choices { HasChoices (accepted_data model.now) list.now problem.now }
+    ensures { IfOk result (λ reply. Replies (Answering (accepted_data model.now) list.now splits)
+        reply.status (bytes_of reply.text)) }
+{
+    let _ = &problem.terms;
+    match search::<Pair, Picks>(alloc, problem, splits, &mut Picks)? {
+        Outcome::Found(numbers) => {
+            let text = image_text(alloc, model, list, numbers.as_slice())?;
             Ok(Reply::made(Status::Good, text))
         }
-        Judged::Breaks(_) => {
-            let text = zero_record(alloc, choice_count(model, list))?;
+        Outcome::Refuted(log) => {
+            let text = print_log(alloc, &log)?;
+            Ok(Reply::made(Status::No, text))
+        }
+        Outcome::Spent(log) => {
+            let text = print_log(alloc, &log)?;
             Ok(Reply::made(Status::Spent, text))
         }
     }
 }
 
-/// The answer to a list: the image of zeros where it meets the list, else the record that it was tried.
-pub fn solve_reply(alloc: Global, model: &Accepted, list: &Requests) -> Reply
+/// The answer to a list, with at most so many splits: the text of an image that meets it, or that of
+/// a log that refutes its problem, or that of a record of exactly so many splits. A list that is too
+/// large is refused.
+pub fn solve_reply(alloc: Global, model: &Accepted, list: &Requests, splits: u64) -> Reply
     requires list { IsList (accepted_data model.now) list.now }
-    ensures { Replies (Trying (accepted_data model.now) list.now) result.status (bytes_of result.text) }
+    ensures { Replies (SolvingList splits (accepted_data model.now) list.now)
+        result.status (bytes_of result.text) }
 {
-    match tried(alloc, model, list) {
+    let problem = match list_problem(alloc, model, list) {
+        Ok(problem) => problem,
+        Err(reply) => return reply,
+    };
+    match searched(alloc, model, list, &problem, splits) {
         Ok(reply) => reply,
         Err(_) => Reply::no_memory(),
     }
@@ -109,7 +156,7 @@ pub fn perform<S: Shelf>(alloc: Global, shelf: &mut S, job: SolveJob<'_>) -> Rep
         result.status (bytes_of result.text) }
 {
     match model_and_list(alloc, shelf, job.model, job.requests) {
-        Ok(question) => solve_reply(alloc, &question.model, &question.list),
+        Ok(question) => solve_reply(alloc, &question.model, &question.list, job.splits),
         Err(reply) => reply,
     }
 }

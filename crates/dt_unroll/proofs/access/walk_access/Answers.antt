@@ -38,7 +38,7 @@ returns-clause-outs c =
     let same = c.model-m.ensures.same in
     let s = stands c.model-m.result.now d _ _ _ _ same c.as_slice.ensures c.as_slice-2.ensures c.as_slice-3.ensures c.as_slice-nodes.ensures in
     let a = access_same d c.args.requests.now _ _ _ c.args.regs c.args.inputs _ _ s.scope (ap (λ (x : ModelData). x.word) same) (ap (λ (x : ModelData). x.address) same) c.requires.zero_term c.requires.one_term in
-    let w = walk_same d c.args.requests.now _ _ c.args.builder.now.terms _ _ c.args.regs c.args.inputs a (c.in_ok-front.ensures.state c.args.builder.now) (c.in_ok-word.ensures ∙ ap (λ n. c.args.inputs + n) c.requires.inputs) s.steps in
+    let w = walk_same d c.args.requests.now _ _ c.args.builder.now.terms _ _ c.args.regs c.args.inputs a (c.in_ok-front.ensures.state c.args.builder.now) (c.in_ok-word.ensures.value ∙ ap (λ n. c.args.inputs + n) c.requires.inputs) s.steps in
     ok_is c.walk.result (λ v. v.items) _ (walk_at d c.args.requests.now c.args.regs c.args.inputs c.args.builder.now.terms).outs (ap (λ (x : Walked). x.outs) w) c.walk.ensures.outs
 
 pub returns-clause-terms : goal.returns-clause-terms
@@ -47,5 +47,5 @@ returns-clause-terms c =
     let same = c.model-m.ensures.same in
     let s = stands c.model-m.result.now d _ _ _ _ same c.as_slice.ensures c.as_slice-2.ensures c.as_slice-3.ensures c.as_slice-nodes.ensures in
     let a = access_same d c.args.requests.now _ _ _ c.args.regs c.args.inputs _ _ s.scope (ap (λ (x : ModelData). x.word) same) (ap (λ (x : ModelData). x.address) same) c.requires.zero_term c.requires.one_term in
-    let w = walk_same d c.args.requests.now _ _ c.args.builder.now.terms _ _ c.args.regs c.args.inputs a (c.in_ok-front.ensures.state c.args.builder.now) (c.in_ok-word.ensures ∙ ap (λ n. c.args.inputs + n) c.requires.inputs) s.steps in
+    let w = walk_same d c.args.requests.now _ _ c.args.builder.now.terms _ _ c.args.regs c.args.inputs a (c.in_ok-front.ensures.state c.args.builder.now) (c.in_ok-word.ensures.value ∙ ap (λ n. c.args.inputs + n) c.requires.inputs) s.steps in
     ok_is c.walk.result (λ _. c.walk.new.builder.terms) _ (walk_at d c.args.requests.now c.args.regs c.args.inputs c.args.builder.now.terms).terms (ap (λ (x : Walked). x.terms) w) c.walk.ensures.terms

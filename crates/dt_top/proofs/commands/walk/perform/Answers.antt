@@ -1,8 +1,6 @@
-use Rattle.std.proofs.Common.{◌≡◌, ◌∷◌, [], subst}
-use Rattle.dt_model.specs.Accepted.{accepted_data}
+use Rattle.std.proofs.Common.{◌∷◌, [], subst}
 use Rattle.dt_model.specs.ModelData.{ModelData}
 use Rattle.dt_top.specs.Course.{OnFile}
-use Rattle.dt_top.specs.Models.{shipped_data}
 use Rattle.dt_top.specs.Replies.{bytes_of}
 use Rattle.dt_top.specs.Seen.{seen}
 use Rattle.dt_top.specs.Table.{Ends, in_call}
