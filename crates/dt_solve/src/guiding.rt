@@ -15,14 +15,18 @@ const MOST_TERMS: u32 = 20;
 
 const MANY_BITS: u32 = 48;
 
-// From which of the required terms that aren't 1 a walk begins.
+// Where a bit is split: which of the required terms that aren't 1 a walk begins from, and whether the
+// choice that is blamed for the last empty cell comes first.
 #[derive(Clone, Copy, Debug, PartialEq, Eq)]
 pub(crate) enum Rule {
-    // The last one.
+    // The last term.
     Last,
-    // The first one.
+    // The choice that is blamed, and then the last term.
+    Blamed,
+    // The first term.
     First,
-    // The one of the last few from which a walk comes to the fewest bits of choices.
+    // The choice that is blamed, and then that of the last few terms from which a walk comes to the
+    // fewest bits of choices.
     Fewest,
 }
 
@@ -135,12 +139,25 @@ fn open_bits<D: Domain>(problem: &Problem, cells: &Cells<D>, values: &[u128], pl
     place.bits & !settled & bits_below(width_of(problem, place.term))
 }
 
-// A walk down the terms, from a required term that isn't 1 to the choices, along the operands that
-// would have to change for it to be 1. Where it leads to is a hint: nothing rests on it.
+// The bits of a term that its cell doesn't know.
+fn unknown_bits<D: Domain>(problem: &Problem, cells: &Cells<D>, term: u32) -> u128
+    requires { AreCells D.ops problem.now.terms cells.now }
+{
+    let _ = &problem.terms;
+    if term as usize >= problem.terms.len() {
+        return 0;
+    }
+    !cells.get(term).known_mask() & bits_below(width_of(problem, term))
+}
+
+// What says where to split: where a walk down the terms leads, from a required term that isn't 1 to
+// the choices, along the operands that would have to change for it to be 1; or in the choice that is
+// blamed for the last empty cell. That is a hint: nothing rests on it.
 #[derive(Drop)]
 pub(crate) struct Guide {
     rule: Rule,
     places: Vec<Place>,
+    blamed: Option<u32>,
 }
 
 impl Guide {
@@ -151,7 +168,14 @@ impl Guide {
         Guide {
             rule,
             places: Vec::new(alloc),
+            blamed: None,
         }
+    }
+
+    // Notes the choice whose bit was set last before a cell became empty, if one was. What has no way
+    // out there has none under other splits between.
+    pub(crate) fn blame(&mut self, choice: Option<u32>) {
+        self.blamed = choice;
     }
 
     // Puts off the places of two operands: the first one is gone to first.
@@ -352,6 +376,19 @@ impl Guide {
         }
     }
 
+    // The highest bit of the choice that is blamed that isn't known.
+    fn blamed_bit<D: Domain>(&self, problem: &Problem, cells: &Cells<D>) -> Option<ChoiceBit>
+        requires { AreCells D.ops problem.now.terms cells.now }
+    {
+        let term = self.blamed?;
+        let bits = unknown_bits(problem, cells, term);
+        if bits == 0 {
+            return None;
+        }
+        let bit = 127 - bits.leading_zeros().min(127);
+        Some(ChoiceBit { term, bit })
+    }
+
     // A bit to split, where the values fail to solve the problem.
     pub(crate) fn hint<D: Domain>(
         &mut self,
@@ -363,15 +400,21 @@ impl Guide {
     {
         let required = problem.required.as_slice();
         match self.rule {
-            Rule::Last => {
-                let from = last_failing(required, values);
-                self.first_below(problem, cells, values, from)
-            }
-            Rule::First => {
-                let from = first_failing(required, values);
-                self.first_below(problem, cells, values, from)
-            }
-            Rule::Fewest => self.fewest(problem, cells, values),
+            Rule::Last => self.first_below(problem, cells, values, last_failing(required, values)),
+            Rule::First => self.first_below(
+                problem,
+                cells,
+                values,
+                first_failing(required, values),
+            ),
+            Rule::Blamed => match self.blamed_bit(problem, cells) {
+                Some(bit) => Ok(Some(bit)),
+                None => self.first_below(problem, cells, values, last_failing(required, values)),
+            },
+            Rule::Fewest => match self.blamed_bit(problem, cells) {
+                Some(bit) => Ok(Some(bit)),
+                None => self.fewest(problem, cells, values),
+            },
         }
     }
 }

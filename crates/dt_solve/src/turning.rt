@@ -111,6 +111,14 @@ pub(crate) fn begin<D: Deciding>(
     })
 }
 
+// The term whose cell changed, where one did.
+fn changed_term(start: Start) -> Option<u32> {
+    match start {
+        Start::Ended(_) => None,
+        Start::Changed(term) => Some(term),
+    }
+}
+
 // Settles the cells, of which one may be empty.
 fn settle_start<D: Deciding>(
     alloc: Global,
@@ -229,6 +237,7 @@ pub(crate) fn turn<D: Deciding, P: Proposer<D>>(
         )? {
             None => Ok(Turned::Refuted),
             Some(split) => {
+                search.guide.blame(changed_term(search.start));
                 search.start = Start::Changed(split.term);
                 Ok(Turned::More)
             }
