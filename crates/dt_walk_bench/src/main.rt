@@ -51,6 +51,18 @@ fn walk_all(walker: &mut Walker<'_>, image: &Image, before: Counts) -> Counts
     counts
 }
 
+/// Walks each access of the image so many times.
+fn walk_rounds(walker: &mut Walker<'_>, image: &Image, rounds: u32) -> Counts
+    requires { IsImage (walker_data walker.old) image.now }
+    ensures { walker_data walker.new ≡ walker_data walker.old }
+{
+    let mut counts = Counts { walks: 0, reads: 0 };
+    for _round in 0..rounds {
+        counts = walk_all(walker, image, counts);
+    }
+    counts
+}
+
 /// Walks the image of a file so many times, and tells how long it took.
 fn measure(rt: &HostRuntime, path: &str, rounds: u32) -> Result<(), Stop> {
     let text = fs::read(rt, path)?;
@@ -60,13 +72,9 @@ fn measure(rt: &HostRuntime, path: &str, rounds: u32) -> Result<(), Stop> {
     let model = sv39_model(rt.alloc())?;
     let image = read_image(rt.alloc(), &model, text.as_slice())?;
     let mut walker = Walker::new(rt.alloc(), &model)?;
-    let mut counts = Counts { walks: 0, reads: 0 };
     let start = Instant::now(rt)?;
-    for _ in 0..rounds {
-        counts = walk_all(&mut walker, &image, counts);
-    }
+    let Counts { walks, reads } = walk_rounds(&mut walker, &image, rounds);
     let taken = start.elapsed(rt)?.as_millis();
-    let Counts { walks, reads } = counts;
     eprintln!(rt; "{taken} ms")?;
     println!(rt; "{walks} walks, {reads} reads")?;
     Ok(())
