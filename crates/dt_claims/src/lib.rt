@@ -13,12 +13,12 @@ mod ends;
 mod extras;
 mod kept;
 mod links;
+mod numbers;
 mod outs;
 mod pairs;
 mod places;
 mod sized;
 mod terms;
-mod tests;
 mod widths;
 
 pub use claims::require_claims;
