@@ -25,8 +25,7 @@ pub(crate) enum Rule {
     Blamed,
     // The first term.
     First,
-    // The choice that is blamed, and then that of the last few terms from which a walk comes to the
-    // fewest bits of choices.
+    // That of the last few terms from which a walk comes to the fewest bits of choices.
     Fewest,
 }
 
@@ -411,10 +410,7 @@ impl Guide {
                 Some(bit) => Ok(Some(bit)),
                 None => self.first_below(problem, cells, values, last_failing(required, values)),
             },
-            Rule::Fewest => match self.blamed_bit(problem, cells) {
-                Some(bit) => Ok(Some(bit)),
-                None => self.fewest(problem, cells, values),
-            },
+            Rule::Fewest => self.fewest(problem, cells, values),
         }
     }
 }
