@@ -22,11 +22,11 @@ pub(crate) enum Rule {
     // The last term.
     Last,
     // The choice that is blamed, and then the last term.
-    Blamed,
-    // The first term.
-    First,
+    BlamedLast,
     // That of the last few terms from which a walk comes to the fewest bits of choices.
     Fewest,
+    // The choice that is blamed, and then that term.
+    BlamedFewest,
 }
 
 // A term, and the bits of it that would have to change.
@@ -359,17 +359,16 @@ impl Guide {
         Ok(best.at)
     }
 
-    // The bit that the walk from a term comes to first.
-    fn first_below<D: Domain>(
+    // The bit that the walk from the last failing term comes to first.
+    fn last<D: Domain>(
         &mut self,
         problem: &Problem,
         cells: &Cells<D>,
         values: &[u128],
-        from: Option<u32>,
     ) -> Result<Option<ChoiceBit>, NoMemory>
         requires { AreCells D.ops problem.now.terms cells.now }
     {
-        match from {
+        match last_failing(problem.required.as_slice(), values) {
             None => Ok(None),
             Some(term) => Ok(self.walk(problem, cells, values, term, 1)?.at),
         }
@@ -397,21 +396,24 @@ impl Guide {
     ) -> Result<Option<ChoiceBit>, NoMemory>
         requires { AreCells D.ops problem.now.terms cells.now }
     {
-        let required = problem.required.as_slice();
-        match self.rule {
-            Rule::Last => self.first_below(problem, cells, values, last_failing(required, values)),
-            Rule::First => self.first_below(
-                problem,
-                cells,
-                values,
-                first_failing(required, values),
-            ),
-            Rule::Blamed => match self.blamed_bit(problem, cells) {
-                Some(bit) => Ok(Some(bit)),
-                None => self.first_below(problem, cells, values, last_failing(required, values)),
-            },
-            Rule::Fewest => self.fewest(problem, cells, values),
+        if blames(self.rule) {
+            let blamed = self.blamed_bit(problem, cells);
+            if blamed.is_some() {
+                return Ok(blamed);
+            }
         }
+        match self.rule {
+            Rule::Last | Rule::BlamedLast => self.last(problem, cells, values),
+            Rule::Fewest | Rule::BlamedFewest => self.fewest(problem, cells, values),
+        }
+    }
+}
+
+// Whether the choice that is blamed comes first.
+fn blames(rule: Rule) -> bool {
+    match rule {
+        Rule::Last | Rule::Fewest => false,
+        Rule::BlamedLast | Rule::BlamedFewest => true,
     }
 }
 
@@ -422,16 +424,6 @@ fn fewer(best: Reach, other: Reach) -> Reach {
     } else {
         best
     }
-}
-
-// The first of these terms whose value isn't 1.
-fn first_failing(required: &[u32], values: &[u128]) -> Option<u32> {
-    for term in required {
-        if value_of(values, *term) != 1 {
-            return Some(*term);
-        }
-    }
-    None
 }
 
 // The last of these terms whose value isn't 1.

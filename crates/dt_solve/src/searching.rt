@@ -20,7 +20,12 @@ const FIRST_REACH: u64 = 400;
 const RISE: u64 = 8;
 
 // The rules by which attempts split, in turn.
-const RULES: [Rule; 4] = [Rule::Last, Rule::Blamed, Rule::Fewest, Rule::First];
+const RULES: [Rule; 4] = [
+    Rule::Last,
+    Rule::BlamedLast,
+    Rule::Fewest,
+    Rule::BlamedFewest,
+];
 
 // The log of a draft that is a tree.
 fn log_of(draft: Draft, claim: Claim) -> Log
@@ -117,5 +122,5 @@ pub fn search<D: Deciding, P: Proposer<D>>(
         }
         reach = reach.saturating_mul(RISE);
     }
-    attempt(alloc, problem, limit, Rule::Blamed, proposer)
+    attempt(alloc, problem, limit, Rule::BlamedLast, proposer)
 }
