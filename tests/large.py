@@ -11,7 +11,9 @@ whose walk makes 64 reads), `reads_list` (a list at every limit at once), `reads
 it), `reads_long` (the list with comments, of 16 MiB) and `reads_case` (a case of `dt_cases` that
 prints the list); and the logs `log_steps`, `log_tries`
 and `log_splits` (64 MiB each: a long refutation, the most values of tries, and the most items of a
-tree) and `log_opens` (64 MiB of items of which the second is already wrong).
+tree) and `log_opens` (64 MiB of items of which the second is already wrong); and `problem` and
+`problem_list`, a model and a list whose three products are all at their limits, for
+`dt_encode_bench`.
 """
 import sys
 
@@ -306,8 +308,67 @@ def reads():
     reads_case(model, lines)
 
 
+def chain_of(start, count, step):
+    """So many operators on one way, 56 bits wide."""
+    text = start
+    for i in range(count):
+        text = "(add %s 56:0x%x)" % (text, step * 64 + i + 1)
+    return text
+
+
+def problem_model():
+    """4 reads, 8 results, and 3125 nodes and operators."""
+    lines = ["model 1", "word 64", "address 56", "reg base 56", "input x 56"]
+    lines += ["var w%d 64" % i for i in range(4)]
+    left = 3125 - 4 - 7 - 8 - 1
+    lets = []
+    while left > 60:
+        count = min(60, left - 1)
+        lets.append(count)
+        left -= count + 1
+    lines += ["var v%d 56" % i for i in range(len(lets))]
+    # what is left over is put on the tests
+    spare = left
+    for i, count in enumerate(lets):
+        start = "x" if i == 0 else "v%d" % (i - 1)
+        half = chain_of(start, count // 2, 2 * i)
+        rest = chain_of("base", count - count // 2 - 1, 2 * i + 1)
+        lines.append("node l%d let v%d (xor %s %s) %s" % (i, i, half, rest, "l%d" % (i + 1) if i + 1 < len(lets) else "s0"))
+    for i in range(4):
+        cell = "base" if i == 0 else "v%d" % i
+        lines.append("node s%d read w%d %s 12 %s f" % (i, i, cell, "s%d" % (i + 1) if i < 3 else "t0"))
+    tests = [1] * 7
+    pages = [0] * 8
+    spare -= sum(tests)
+    for i in range(spare):
+        pages[i % 8] += 1
+    for i in range(7):
+        lines.append("node t%d if (slice %d %d w%d) d%d %s" % (i, i, i, i % 4, i, "t%d" % (i + 1) if i < 6 else "d7"))
+    for i in range(8):
+        lines.append("node d%d done %s 12" % (i, chain_of("v%d" % i, pages[i], 200 + i)))
+    lines += ["node f fault 1", "end"]
+    write("problem", lines)
+
+
+def problem_list():
+    """64 accesses of 64 demands, 256 links and 16 kept ranges."""
+    lines = ["requests 2", "tables 0x80000000 0x80100000"]
+    lines += ["keep 0x%x 0x%x" % (0x10000000 * i, 0x10000000 * i + 0x1000) for i in range(16)]
+    lines += ["context c%d" % i for i in range(16)]
+    for i in range(64):
+        lines.append("access a%d c%d" % (i, i % 16))
+        lines += ["bits pa 0xff 0x0", "ends done", "page 12"]
+        lines += ["bits in x 0x%x 0x%x" % (1 << j, 1 << j if i >> (j % 6) & 1 else 0) for j in range(50)]
+        lines += ["range word s%d 0x1 0x%x" % (j % 4, (1 << 60) + i) for j in range(11)]
+    lines += ["share page a%d a%d" % (i % 64, (i * 7 + 1) % 64) for i in range(128)]
+    lines += ["apart page a%d a%d" % (i % 64, (i * 11 + 3) % 64) for i in range(128)]
+    write("problem_list", lines + ["end"])
+
+
 limits()
 models()
 image()
 logs()
 reads()
+problem_model()
+problem_list()

@@ -87,6 +87,13 @@ impl Evaluation {
         })
     }
 
+    /// The values of the terms.
+    pub fn values(&self) -> &[u128]
+        ensures { result.now ≡ self.now.values.items }
+    {
+        &self.values
+    }
+
     // Gives a term a value, and marks its users where it had another.
     fn set_value(&mut self, problem: &Problem, watches: &Watches, term: u32, value: u128)
         requires watches { watches.now ≡ watches_of problem.now.terms }

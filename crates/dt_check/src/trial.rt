@@ -180,10 +180,17 @@ impl Trial {
     }
 
     /// Which nodes use each term.
-    pub(crate) fn watches(&self) -> &Watches
+    pub fn watches(&self) -> &Watches
         ensures { result.now ≡ self.now.watches }
     {
         &self.watches
+    }
+
+    /// The values of the terms under the assignment that was tried last.
+    pub fn values(&self) -> &[u128]
+        ensures { result.now ≡ self.now.evaluation.values.items }
+    {
+        self.evaluation.values()
     }
 
     /// The cells go back as by `Cells::undo`, and the trial follows them. It takes no memory.

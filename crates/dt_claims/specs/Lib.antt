@@ -1,0 +1,6 @@
+pub mod Endings
+pub mod Lives
+pub mod Relations
+pub mod Steps
+pub mod Tests
+pub mod Views

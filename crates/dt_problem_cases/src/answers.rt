@@ -1,5 +1,5 @@
 //! Which call a case asks for, and its answer.
-use crate::{logs, problems, steps, trails};
+use crate::{logs, problems, searches, steps, trails};
 use dt_bits::NoMemory;
 use dt_script::{Calls, Case};
 use std::alloc::{AllocError, Global};
@@ -15,6 +15,9 @@ fn push_answer(alloc: Global, call: &str, case: Case, out: &mut String) -> Resul
         "check known" => logs::answered(alloc, "known", case, out),
         "check range" => logs::answered(alloc, "range", case, out),
         "check pair" => logs::answered(alloc, "pair", case, out),
+        "search known" => searches::answered(alloc, "known", case, out),
+        "search pair" => searches::answered(alloc, "pair", case, out),
+        "search triple" => searches::answered(alloc, "triple", case, out),
         _ => Ok(out.push_str("no such call\n")?),
     }
 }

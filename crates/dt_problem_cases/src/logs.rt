@@ -31,7 +31,8 @@ fn push_fault(out: &mut String, fault: LogFault) -> Result<(), AllocError> {
     }
 }
 
-fn push_checked<D: Domain>(
+/// Writes what the checker says of the log, over this domain.
+pub fn push_checked<D: Domain>(
     alloc: Global,
     problem: &Problem,
     log: &Log,
@@ -45,16 +46,19 @@ fn push_checked<D: Domain>(
     Ok(())
 }
 
+/// Writes the printed text of the log.
+pub fn push_text(alloc: Global, log: &Log, out: &mut String) -> Result<(), NoMemory> {
+    let text = print_log(alloc, log)?;
+    out.push_str(str::from_utf8(text.as_slice()).unwrap_or("no text"))?;
+    Ok(())
+}
+
 /// The printed text of the log, or which line or item is wrong, and why.
 pub fn printed(alloc: Global, case: Case, out: &mut String) -> Result<(), NoMemory> {
     match read_log(alloc, case.text("log").as_bytes()) {
-        Err(fault) => push_fault(out, fault)?,
-        Ok(log) => {
-            let text = print_log(alloc, &log)?;
-            out.push_str(str::from_utf8(text.as_slice()).unwrap_or("no text"))?;
-        }
+        Err(fault) => Ok(push_fault(out, fault)?),
+        Ok(log) => push_text(alloc, &log, out),
     }
-    Ok(())
 }
 
 /// The checker's answer over the domain of this name.

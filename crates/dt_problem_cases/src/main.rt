@@ -1,4 +1,4 @@
-//! Cases of problems of terms, of their cells and of logs, as texts: what the calls make of them,
+//! Cases of problems of terms, of their cells, of logs and of searches, as texts: what the calls make of them,
 //! line by line, and what they must. The words of the program name files of cases; `dt_script` says
 //! how these are written.
 //!
@@ -10,6 +10,7 @@
 //! | `users` | `problem` | for each term `users`, and the nodes that use it |
 //! | `log` | `log` | its printed text, or which line or item is wrong, and why |
 //! | `check known`, `check range`, `check pair` | `problem`, `log` | what the checker says over this domain, see `logs` |
+//! | `search known`, `search pair`, `search triple` | `problem`, `limit N`, `aim N..` | what a search answers over this domain, see `searches` |
 //!
 //! Proved: each call is made where its conditions hold, and the program ends. Only tested: all else,
 //! and so that these calls answer something other than that memory ran out where there is enough.
@@ -18,6 +19,7 @@
 mod answers;
 mod logs;
 mod problems;
+mod searches;
 mod steps;
 mod trails;
 

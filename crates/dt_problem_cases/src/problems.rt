@@ -86,7 +86,8 @@ fn push_choices(problem: &Problem, out: &mut String) -> Result<(), AllocError> {
     out.push('\n')
 }
 
-fn push_numbers(out: &mut String, numbers: &[u128]) -> Result<(), AllocError> {
+/// Writes the numbers, a space before each, and ends the line.
+pub fn push_numbers(out: &mut String, numbers: &[u128]) -> Result<(), AllocError> {
     for number in numbers {
         write!(out, " {number}")?;
     }

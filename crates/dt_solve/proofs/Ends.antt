@@ -1,6 +1,5 @@
 -- How a search begins, and what its answers say.
-use Rattle.std.proofs.Common.{◌≡◌, ℕ, ◌+◌, ◌<◌, ◌≤◌, ◌^◌, true, false, Bool, List, [], ◌∷◌, ◌++◌, length, Option, Some, refl, sym, ap, ◌∙◌, subst, arith}
-use Rattle.std.specs.Prelude.{All}
+use Rattle.std.proofs.Common.{◌≡◌, ℕ, ◌<◌, true, false, Bool, List, [], ◌∷◌, length, Option, Some, refl, sym, ap, ◌∙◌, subst, arith}
 use Rattle.std.specs.List.{AllByRecursion}
 use Rattle.std.proofs.lemmas.List.Elements.{All-nil}
 use Rattle.dt_domain.specs.Domain.{DomainOps, DomainLaws, DecidingLaws}
@@ -13,21 +12,23 @@ use Rattle.dt_log.specs.declared.line.Line.{Line}
 use Rattle.dt_log.specs.declared.line.Claim.{Claim}
 use Rattle.dt_log.specs.declared.line.Claim.TheVariants.{Impossible, Budget}
 use Rattle.dt_log.specs.Trees.{Tree, StandsFor, splits_of}
-use Rattle.dt_log.specs.Shapes.{is_done}
+use Rattle.dt_log.specs.Shapes.{is_done, is_tree}
 use Rattle.dt_log.specs.Shapes as shapes
 use Rattle.dt_log.proofs.Forests.{tree_of}
 use Rattle.dt_check.specs.declared.pending.Pending.{Pending}
 use Rattle.dt_check.specs.Records.{Follows}
 use Rattle.dt_check.specs.Reading.{at_first, after_lines, Passes}
 use Rattle.dt_check.specs.Along.{trials_along}
-use Rattle.dt_check.specs.Waiting.{Stacked, AtSplits}
+use Rattle.dt_check.specs.Waiting.{Stacked}
 use Rattle.dt_check.proofs.Along.{along_tree}
 use Rattle.dt_check.proofs.Drafts.{draft_refutes, draft_records}
 use Rattle.dt_check.proofs.Bound.{root_required, record_bound, record_bound_all}
 use Rattle.dt_propagate.specs.Settling.{IsLogged}
 use Rattle.dt_propagate.proofs.Progress.{leads_hold}
-use Rattle.dt_solve.specs.Searching.{CanTurn, FollowsAt, IsRead, IsSearching}
+use Rattle.dt_solve.specs.Searching.{FollowsAt, IsRead, IsSearching}
 use Rattle.dt_solve.specs.Outcomes.{IsRefuted, IsSpent}
+use Rattle.dt_solve.specs.Untried.{AreUntried, without_tries}
+use Rattle.dt_solve.proofs.Untried.{bare, lines_bare, refutes_bare, bare_is_tree, are_untried}
 use Rattle.dt_solve.proofs.Moves.{required_leads, read_leads}
 
 module _ (D : Type 0) (ops : DomainOps D) (p : ProblemData) (limit : ℕ) (aim : Option (List ℕ)) where
@@ -70,19 +71,26 @@ module _ (D : Type 0) (ops : DomainOps D) (p : ProblemData) (limit : ℕ) (aim :
           few_in_all = record_bound_all D ops laws p problem decides t.0 limit r;
         }
 
-  pub refuted_log : (lines log : List Line) (claim : Claim) (n : ℕ) → log ≡ lines → claim ≡ Impossible → IsRead ops p limit aim lines [] n false → IsRefuted ops p claim log
-  refuted_log lines log claim n e c h =
+  pub refuted_log : (lines bared log : List Line) (claim : Claim) (n : ℕ) → bared ≡ without_tries lines → log ≡ bared → claim ≡ Impossible → IsRead ops p limit aim lines [] n false → IsRefuted ops p claim log
+  refuted_log lines bared log claim n b e c h =
       let t = tree_of lines (ap is_done h.shape) in
+      let r = draft_refutes D ops p limit n t.0 (subst (λ ls. Passes ops p (Budget limit) ls (at_first ops p)) (sym t.1) h.passes) (ap (λ ls. after_lines ops p.terms ls (at_first ops p)) t.1 ∙ h.after) in
+      let same : without_tries lines ≡ log = sym b ∙ sym e in
       record {
-        splits = splits_of t.0;
+        splits = splits_of (bare t.0);
         refutes = record {
           claims = c;
-          tree = t.0;
-          stands = t.1 ∙ sym e;
-          refutes = draft_refutes D ops p limit n t.0 (subst (λ ls. Passes ops p (Budget limit) ls (at_first ops p)) (sym t.1) h.passes) (ap (λ ls. after_lines ops p.terms ls (at_first ops p)) t.1 ∙ h.after);
+          tree = bare t.0;
+          stands = lines_bare t.0 ∙ ap without_tries t.1 ∙ same;
+          refutes = refutes_bare D ops p t.0 r;
           splits = refl;
         };
+        untried = subst AreUntried same (are_untried lines);
       }
+
+  -- what is read to its end is a tree, without its Try items too
+  pub bared_is_tree : (lines bared : List Line) (n : ℕ) (o : Bool) → bared ≡ without_tries lines → IsRead ops p limit aim lines [] n o → is_tree bared ≡ true
+  bared_is_tree lines bared n o b h = ap is_tree b ∙ bare_is_tree lines (ap is_done h.shape)
 
   pub follows_log : (lines log : List Line) (n : ℕ) (o : Bool) → log ≡ lines → IsRead ops p limit aim lines [] n o
       → (numbers : List ℕ) → aim ≡ Some numbers → length numbers ≡ length (choices_of p.terms) → (tree : Tree) → StandsFor log tree → Follows ops p numbers tree

@@ -1,9 +1,9 @@
 -- What a trial that failed leads to.
-use Rattle.std.proofs.Common.{◌≡◌, ℕ, zero, suc, ◌+◌, ◌*◌, ◌-◌, ◌<◌, ◌≤◌, Bool, true, false, cond, eqb, List, [], ◌∷◌, ◌++◌, length, map, get_or, reverse, replicate, Option, Some, refl, sym, ap, ◌∙◌, subst, arith, append_assoc, take}
+use Rattle.std.proofs.Common.{◌≡◌, ℕ, suc, ◌+◌, ◌<◌, Bool, true, false, cond, eqb, List, [], ◌∷◌, ◌++◌, length, map, get_or, reverse, replicate, Option, Some, refl, sym, ap, ◌∙◌, subst, arith, append_assoc, take}
 use Rattle.std.specs.Prelude.{All, IfSome}
-use Rattle.std.specs.List.{AllByRecursion, range_with_len}
+use Rattle.std.specs.List.{AllByRecursion, list_all}
 use Rattle.std.proofs.lemmas.Bool.{true≢false, cond-true}
-use Rattle.std.proofs.lemmas.List.{ext_get_or, length-map, reverse-append, length-reverse}
+use Rattle.std.proofs.lemmas.List.{ext_get_or, length-map, length-reverse}
 use Rattle.std.proofs.lemmas.List.FromFn.{get_or-map-range_with_len, length-map-range_with_len}
 use Rattle.dt_domain.specs.Domain.{DomainOps, DomainLaws, DecidingLaws, Holds}
 use Rattle.dt_terms.specs.declared.term.Term.{Term}
@@ -26,7 +26,9 @@ use Rattle.dt_log.specs.Trees.{try_line}
 use Rattle.dt_check.specs.declared.pending.Pending.{Pending}
 use Rattle.dt_check.specs.Trials.{choice_cell, picks, pick_at, tried, IsTry, IsFailedTrial, HoldChoices}
 use Rattle.dt_check.specs.Records.{aimed}
+use Rattle.dt_check.specs.Tests.{is_try}
 use Rattle.dt_check.specs.Waiting.{waiting, Stacked, AtSplits}
+use Rattle.dt_check.proofs.Testing.{each_test, try_test}
 use Rattle.dt_check.proofs.Waiting.{stacked_more, waiting_kept, turned}
 use Rattle.dt_check.proofs.Decided.{decided_solves}
 use Rattle.dt_check.proofs.Bound.{bit_required}
@@ -91,16 +93,26 @@ module _ (D : Type 0) (ops : DomainOps D) (p : ProblemData) where
       either true a r = r
       either false a r = (a, r)
 
-  tried_are : (cells : List D) (numbers : List ℕ) → length numbers ≡ length (choices_of p.terms) → tried ops p.terms cells (tries_from 0 (picks ops p.terms cells) numbers) ≡ numbers
+  -- and together with the picks they are the numbers
+  pub tried_are : (cells : List D) (numbers : List ℕ) → length numbers ≡ length (choices_of p.terms) → tried ops p.terms cells (tries_from 0 (picks ops p.terms cells) numbers) ≡ numbers
   tried_are cells numbers e = tries_are (picks ops p.terms cells) numbers (length-map (choices_of p.terms) (pick_at ops cells) ∙ sym e)
+
+  all_held : (cells : List D) (numbers : List ℕ) → HoldChoices ops p.terms cells numbers → AllByRecursion (IsTry ops p.terms cells) (tries_from 0 (picks ops p.terms cells) numbers)
+  all_held cells numbers h =
+      tries_held cells numbers [] (picks ops p.terms cells) 0 (λ j l. let z : j ≡ 0 + j = omega arith in subst (λ i. IsTry ops p.terms cells (i, get_or numbers j 0)) z (omega (arith, h.count), h.each j (omega (arith, h.count))))
 
   -- the trial
   pub failed : (cells : List D) (numbers : List ℕ) → IsSettled ops p.terms cells → HoldChoices ops p.terms cells numbers → solves p numbers ≡ false → IsFailedTrial ops p cells (tries_from 0 (picks ops p.terms cells) numbers)
   failed cells numbers s h f = record {
     settled = s;
-    held = tries_held cells numbers [] (picks ops p.terms cells) 0 (λ j l. let z : j ≡ 0 + j = omega arith in subst (λ i. IsTry ops p.terms cells (i, get_or numbers j 0)) z (omega (arith, h.count), h.each j (omega (arith, h.count))));
+    held = all_held cells numbers h;
     fails = ap (solves p) (tried_are cells numbers h.count) ∙ f;
   }
+
+  -- the pairs pass the checker's test
+  pub tries_pass : (cells : List D) (numbers : List ℕ) → HoldChoices ops p.terms cells numbers → list_all (is_try ops p.terms cells) (tries_from 0 (picks ops p.terms cells) numbers) ≡ true
+  tries_pass cells numbers h =
+      each_test (is_try ops p.terms cells) (IsTry ops p.terms cells) (try_test D ops p.terms cells) (tries_from 0 (picks ops p.terms cells) numbers) (all_held cells numbers h)
 
   pub follows : (cells : List D) (aim : Option (List ℕ)) (numbers : List ℕ) → length numbers ≡ length (choices_of p.terms)
       → IfSome aim (λ a. length a ≡ length (choices_of p.terms) → numbers ≡ held_or_picks ops p.terms cells a) → AllFollow ops p.terms aim ((cells, tries_from 0 (picks ops p.terms cells) numbers) ∷ [])

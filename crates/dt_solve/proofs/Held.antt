@@ -1,6 +1,5 @@
 -- The numbers that are tried are held.
-use Rattle.std.proofs.Common.{◌≡◌, ℕ, zero, suc, ◌+◌, ◌<◌, Bool, true, false, cond, List, [], ◌∷◌, length, map, get_or, refl, sym, subst, arith}
-use Rattle.std.specs.List.{range_with_len}
+use Rattle.std.proofs.Common.{◌≡◌, ℕ, ◌+◌, ◌<◌, Bool, true, false, cond, List, [], length, get_or, refl, sym, subst, arith}
 use Rattle.std.proofs.lemmas.List.{get_or-map}
 use Rattle.std.proofs.lemmas.List.FromFn.{get_or-map-range_with_len, length-map-range_with_len}
 use Rattle.dt_domain.specs.Domain.{DomainOps, DomainLaws, Holds}
@@ -9,7 +8,7 @@ use Rattle.dt_terms.specs.Terms.{AreTerms, choices_of}
 use Rattle.dt_terms.specs.Values.{IsAssignment}
 use Rattle.dt_box.specs.Cells.{AreCells}
 use Rattle.dt_box.specs.Stillness.{HasNoEmpty}
-use Rattle.dt_check.specs.Trials.{choice_cell, pick_at, picks, with_tries, tried, HoldChoices}
+use Rattle.dt_check.specs.Trials.{choice_cell, pick_at, picks, with_tries, HoldChoices}
 use Rattle.dt_check.specs.Records.{aimed}
 use Rattle.dt_check.proofs.Bound.{tried_holds, held_assignment}
 use Rattle.dt_solve.specs.Tries.{held_or_picks}

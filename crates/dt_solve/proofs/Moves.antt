@@ -1,5 +1,5 @@
 -- A turn leads to a state of the search again.
-use Rattle.std.proofs.Common.{◌≡◌, ◌≢◌, ℕ, suc, ◌+◌, ◌*◌, ◌-◌, ◌<◌, ◌≤◌, Bool, true, false, List, [], ◌∷◌, ◌++◌, length, take, reverse, Option, Some, refl, sym, ap, ◌∙◌, subst, ⊎_elim, arith, length-set, get_or-set_other}
+use Rattle.std.proofs.Common.{◌≡◌, ◌≢◌, ℕ, ◌<◌, ◌≤◌, Bool, true, false, List, [], ◌∷◌, ◌++◌, length, take, reverse, Option, Some, sym, ap, ◌∙◌, subst, ⊎_elim, arith, length-set, get_or-set_other}
 use Rattle.std.specs.Prelude.{All}
 use Rattle.std.specs.List.{AllByRecursion}
 use Rattle.std.proofs.lemmas.Bool.{cases_Bool, cases_eq, true≢false}
@@ -9,14 +9,12 @@ use Rattle.dt_bits.specs.Bits.{width}
 use Rattle.dt_domain.specs.Domain.{DomainOps, DomainLaws, DecidingLaws}
 use Rattle.dt_terms.specs.declared.term.Term.{Term}
 use Rattle.dt_terms.specs.Problem.{ProblemData, IsProblem}
-use Rattle.dt_terms.specs.Values.{IsAssignment, solves}
 use Rattle.dt_box.specs.declared.step.Step.{Step}
-use Rattle.dt_box.specs.Cells.{cell_at, AreCells, HoldAssignment}
+use Rattle.dt_box.specs.Cells.{cell_at, AreCells}
 use Rattle.dt_box.specs.Steps.{IsStep, after_step, after_bit}
 use Rattle.dt_box.specs.Stillness.{HasNoEmpty, IsSettled}
-use Rattle.dt_box.specs.Trails.{back, IsKept}
-use Rattle.dt_box.specs.Unknown.{IsUnknownBit, AreRequiredKnown}
-use Rattle.dt_box.specs.Watching.{Covers}
+use Rattle.dt_box.specs.Trails.{back}
+use Rattle.dt_box.specs.Unknown.{AreRequiredKnown}
 use Rattle.dt_box.proofs.Steps.{step_cells, bit_cells}
 use Rattle.dt_box.proofs.Assignments.{held_not_empty}
 use Rattle.dt_box.proofs.Knowledge.{step_empty}
@@ -24,17 +22,15 @@ use Rattle.dt_box.proofs.Trails.{kept_back, back_twice}
 use Rattle.dt_box.proofs.Watching.{covers_more, covers_none}
 use Rattle.dt_log.specs.declared.line.Line.{Line}
 use Rattle.dt_log.specs.declared.line.Line.TheVariants.{Close}
-use Rattle.dt_log.specs.Shapes.{shape}
-use Rattle.dt_log.specs.Shapes as shapes
 use Rattle.dt_check.specs.declared.pending.Pending.{Pending}
 use Rattle.dt_check.specs.Sound.{IsEmptyAt}
-use Rattle.dt_check.specs.Waiting.{right_cells, waiting, Stacked, CanBegin, AtSplits, IsNext, IsBegun}
+use Rattle.dt_check.specs.Waiting.{waiting, Stacked, CanBegin, AtSplits, IsNext, IsBegun}
 use Rattle.dt_check.proofs.Waiting.{stacked_more, waiting_kept}
 use Rattle.dt_check.proofs.Checking.{splits_each}
 use Rattle.dt_check.proofs.Bound.{step_required, bit_required}
 use Rattle.dt_propagate.specs.Settling.{Leads, IsLogged, IsProgress}
 use Rattle.dt_propagate.proofs.Progress.{leads_hold}
-use Rattle.dt_solve.specs.Searching.{HasChanged, CanTurn, FollowsAt, IsRead, HoldAim, NoAim, IsSearching, left}
+use Rattle.dt_solve.specs.Searching.{HasChanged, CanTurn, FollowsAt, IsRead, NoAim, IsSearching, left}
 use Rattle.dt_solve.proofs.Logged.{leads_passes, leads_after, leads_along, leads_shape}
 use Rattle.dt_solve.proofs.Turns.{read_more, read_close}
 

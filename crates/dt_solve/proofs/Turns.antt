@@ -1,11 +1,10 @@
 -- What lines add to a draft that is read.
-use Rattle.std.proofs.Common.{◌≡◌, ℕ, zero, suc, ◌+◌, Bool, true, false, ◌||◌, List, [], ◌∷◌, ◌++◌, length, map, replicate, Option, Some, None, refl, sym, ap, ◌∙◌, subst, arith, append_assoc}
+use Rattle.std.proofs.Common.{◌≡◌, ℕ, suc, ◌+◌, Bool, true, false, ◌||◌, List, [], ◌∷◌, ◌++◌, length, map, replicate, Option, Some, None, refl, sym, ap, ◌∙◌, subst, arith, append_assoc}
 use Rattle.std.specs.Prelude.{option_and_then}
 use Rattle.std.specs.List.{AllByRecursion}
 use Rattle.dt_domain.specs.Domain.{DomainOps}
 use Rattle.dt_lemmas.proofs.Lists.{AllByRecursion-append}
 use Rattle.dt_terms.specs.Problem.{ProblemData}
-use Rattle.dt_box.specs.Cells.{cell_at}
 use Rattle.dt_box.specs.Steps.{after_bit}
 use Rattle.dt_box.specs.Unknown.{IsUnknownBit}
 use Rattle.dt_log.specs.declared.line.Line.{Line}

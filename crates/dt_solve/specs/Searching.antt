@@ -19,6 +19,7 @@ use Rattle.dt_check.specs.Trials.{tried}
 use Rattle.dt_check.specs.Reading.{reading, at_first, after_lines, Passes}
 use Rattle.dt_check.specs.Along.{trials_along}
 use Rattle.dt_check.specs.Waiting.{waiting, Stacked, AtSplits}
+use Rattle.dt_check.specs.Trying.{IsTrial}
 use Rattle.dt_propagate.specs.Settling.{IsEnd}
 use Rattle.dt_solve.specs.Tries.{held_or_picks}
 use Rattle.dt_solve.specs.declared.turning.Start.{Start}
@@ -105,6 +106,7 @@ left limit splits pending = 2 * (limit - splits) + length pending
 pub record IsAt {D : Type 0} (ops : DomainOps D) (p : ProblemData) (limit : ℕ) (aim : Option (List ℕ)) (s : Search D) : Type 0 where
   pub searching : IsSearching ops p limit aim s.cells s.trail s.pending.items s.draft.lines s.splits
   pub start : IsStart ops p.terms s.start s.cells
+  pub trial : IsTrial ops p.terms s.cells s.trail s.trial
 
 -- what a turn leads to: less is left to do; or numbers that solve; or a draft in which nothing is left to
 -- read

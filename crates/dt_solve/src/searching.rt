@@ -1,17 +1,26 @@
-ghost use Rattle.std.specs.Prelude.{◌≡◌, true, IfOk};
+ghost use Rattle.std.specs.Prelude.{◌≡◌, true, IfOk, IfSome};
 ghost use Rattle.dt_log.specs.Shapes.{is_tree};
-ghost use Rattle.dt_solve.specs.Outcomes.{IsAnswer, FindsAim, FollowsAim};
+ghost use Rattle.dt_solve.specs.Outcomes.{IsAnswer, IsEnded, FindsAim, FollowsAim};
 
+use crate::guiding::Rule;
 use crate::outcome::Outcome;
 use crate::proposer::Proposer;
-use crate::trial::Trial;
+use crate::tried::Tried;
 use crate::turning::{Search, Turned, begin, turn};
+use crate::writing::without_tries;
 use dt_bits::NoMemory;
-use dt_box::Watches;
 use dt_domain::Deciding;
 use dt_log::{Claim, Draft, Log};
 use dt_terms::Problem;
 use std::alloc::Global;
+
+// How many splits the first attempts may make, and by how much later ones may make more.
+const FIRST_REACH: u64 = 400;
+
+const RISE: u64 = 8;
+
+// The rules by which attempts split, in turn.
+const RULES: [Rule; 3] = [Rule::Last, Rule::Fewest, Rule::First];
 
 // The log of a draft that is a tree.
 fn log_of(draft: Draft, claim: Claim) -> Log
@@ -25,6 +34,58 @@ fn log_of(draft: Draft, claim: Claim) -> Log
     }
 }
 
+// One search, in which bits are split by this rule.
+fn attempt<D: Deciding, P: Proposer<D>>(
+    alloc: Global,
+    problem: &Problem,
+    limit: u64,
+    rule: Rule,
+    proposer: &mut P,
+) -> Result<Outcome, NoMemory>
+    ensures answer { IfOk result (λ outcome. IsAnswer D.ops problem.now limit outcome) }
+    ensures finds { IfOk result (λ outcome. FindsAim problem.now (P.aim proposer.old) outcome) }
+    ensures follows { IfOk result (λ outcome. FollowsAim D.ops problem.now (P.aim proposer.old) outcome) }
+    ensures aim { P.aim proposer.new ≡ P.aim proposer.old }
+{
+    let _ = &problem.terms;
+    let mut tried = Tried::new(alloc, problem)?;
+    let mut search: Search<D> = begin(alloc, problem, rule)?;
+    loop {
+        match turn(alloc, problem, limit, proposer, &mut search, &mut tried)? {
+            Turned::More => {}
+            Turned::Found => return Ok(Outcome::Found(tried.numbers)),
+            Turned::Refuted => {
+                let bare = without_tries(alloc, &search.draft)?;
+                return Ok(Outcome::Refuted(log_of(bare, Claim::Impossible)));
+            }
+            Turned::Spent => {
+                return Ok(Outcome::Spent(log_of(search.draft, Claim::Budget(limit))));
+            }
+        }
+    }
+}
+
+// A search by each rule in turn, until one finds or refutes; None where each ended at the limit.
+fn attempts<D: Deciding, P: Proposer<D>>(
+    alloc: Global,
+    problem: &Problem,
+    limit: u64,
+    proposer: &mut P,
+) -> Result<Option<Outcome>, NoMemory>
+    ensures answer { IfOk result (λ ended. IfSome ended (IsEnded D.ops problem.now)) }
+    ensures finds { IfOk result (λ ended. IfSome ended (FindsAim problem.now (P.aim proposer.old))) }
+    ensures aim { P.aim proposer.new ≡ P.aim proposer.old }
+{
+    for rule in RULES {
+        match attempt(alloc, problem, limit, rule, proposer)? {
+            Outcome::Found(numbers) => return Ok(Some(Outcome::Found(numbers))),
+            Outcome::Refuted(log) => return Ok(Some(Outcome::Refuted(log))),
+            Outcome::Spent(_record) => {}
+        }
+    }
+    Ok(None)
+}
+
 /// Searches for an assignment that solves the problem, with at most this many splits. At settled
 /// cells the proposer's numbers are tried; where they fail, a bit of a choice is split, and both
 /// halves are searched, the one with the bit 0 first. The answer is an assignment that solves the
@@ -32,7 +93,11 @@ fn log_of(draft: Draft, claim: Claim) -> Log
 /// failed. The record doesn't come where `limit` is `2^C - 1` or more, `C` being the number of bits of
 /// all choices.
 ///
-/// An aim that the proposer tells and that solves the problem is found, whatever the limit.
+/// Which bit is split is free. First there are searches with fewer splits, each by another rule; only
+/// where these find and refute nothing, the one whose record is answered comes.
+///
+/// An aim that the proposer tells and that solves the problem is found, whatever the limit. The
+/// proposer keeps its aim.
 pub fn search<D: Deciding, P: Proposer<D>>(
     alloc: Global,
     problem: &Problem,
@@ -42,29 +107,15 @@ pub fn search<D: Deciding, P: Proposer<D>>(
     ensures answer { IfOk result (λ outcome. IsAnswer D.ops problem.now limit outcome) }
     ensures finds { IfOk result (λ outcome. FindsAim problem.now (P.aim proposer.old) outcome) }
     ensures follows { IfOk result (λ outcome. FollowsAim D.ops problem.now (P.aim proposer.old) outcome) }
+    ensures aim { P.aim proposer.new ≡ P.aim proposer.old }
 {
-    let _ = &problem.terms;
-    let watches = Watches::new(alloc, problem)?;
-    let mut trial = Trial::new(alloc, problem)?;
-    let mut search: Search<D> = begin(alloc, problem, &watches)?;
-    loop {
-        match turn(
-            alloc,
-            problem,
-            &watches,
-            limit,
-            proposer,
-            &mut search,
-            &mut trial,
-        )? {
-            Turned::More => {}
-            Turned::Found => return Ok(Outcome::Found(trial.numbers)),
-            Turned::Refuted => {
-                return Ok(Outcome::Refuted(log_of(search.draft, Claim::Impossible)));
-            }
-            Turned::Spent => {
-                return Ok(Outcome::Spent(log_of(search.draft, Claim::Budget(limit))));
-            }
+    let mut reach = FIRST_REACH;
+    while reach < limit {
+        match attempts(alloc, problem, reach, proposer)? {
+            Some(outcome) => return Ok(outcome),
+            None => {}
         }
+        reach = reach.saturating_mul(RISE);
     }
+    attempt(alloc, problem, limit, Rule::Last, proposer)
 }

@@ -9,16 +9,18 @@ ghost use Rattle.dt_box.specs.Watching.{watches_of};
 ghost use Rattle.dt_log.specs.declared.line.Line.TheVariants.{Split, Close};
 ghost use Rattle.dt_check.specs.declared.pending.Pending.{Pending};
 ghost use Rattle.dt_check.specs.Waiting.{Stacked, CanBegin, AtSplits, IsNext, IsBegun};
+ghost use Rattle.dt_check.specs.Trying.{IsTrial};
 ghost use Rattle.dt_propagate.specs.Settling.{IsLogged, IsProgress, IsEnd};
 ghost use Rattle.dt_solve.specs.Searching.{IsStart, IsAt, IsTurned};
 
 use crate::choosing::{ChoiceBit, bit_to_split};
+use crate::guiding::{Guide, Rule};
 use crate::proposer::Proposer;
-use crate::trial::Trial;
+use crate::tried::Tried;
 use crate::writing::{write_rest, write_tries};
 use dt_bits::NoMemory;
 use dt_box::{Cells, Trail, Watches};
-use dt_check::Pending;
+use dt_check::{Pending, Trial, next_tree};
 use dt_domain::{Deciding, Domain};
 use dt_log::{Draft, Line};
 use dt_propagate::{Settled, settle_from, settle_with};
@@ -48,8 +50,8 @@ pub(crate) enum Turned {
 }
 
 // Where a search stands: the cells of the tree that is begun, what they were before, the splits whose
-// right trees wait, the latest last, what was written, how many splits there were, and what is known
-// of the cells.
+// right trees wait, the latest last, what was written, how many splits there were, what is known of
+// the cells, what is kept between trials, and what says where to split.
 #[derive(Drop)]
 pub(crate) struct Search<D: Domain> {
     pub(crate) cells: Cells<D>,
@@ -58,6 +60,8 @@ pub(crate) struct Search<D: Domain> {
     pub(crate) draft: Draft,
     pub(crate) splits: u64,
     pub(crate) start: Start,
+    pub(crate) trial: Trial,
+    pub(crate) guide: Guide,
 }
 
 // Settles root cells, of which some may be empty.
@@ -84,9 +88,8 @@ fn settle_root<D: Deciding>(
 pub(crate) fn begin<D: Deciding>(
     alloc: Global,
     problem: &Problem,
-    watches: &Watches,
+    rule: Rule,
 ) -> Result<Search<D>, NoMemory>
-    requires watches { watches.now ≡ watches_of problem.now.terms }
     ensures { IfOk result (λ search. (limit : ℕ) → (aim : Option (List ℕ)) → IsAt D.ops problem.now limit aim search) }
 {
     let _ = &problem.terms;
@@ -94,7 +97,8 @@ pub(crate) fn begin<D: Deciding>(
     let trail = Trail::new(alloc)?;
     let pending = Vec::new(alloc);
     let mut draft = Draft::new(alloc);
-    let end = settle_root(alloc, problem, watches, &mut cells, &mut draft)?;
+    let trial = Trial::new(alloc, problem)?;
+    let end = settle_root(alloc, problem, trial.watches(), &mut cells, &mut draft)?;
     Ok(Search {
         cells,
         trail,
@@ -102,6 +106,8 @@ pub(crate) fn begin<D: Deciding>(
         draft,
         splits: 0,
         start: Start::Ended(end),
+        trial,
+        guide: Guide::new(alloc, rule),
     })
 }
 
@@ -132,32 +138,6 @@ fn settle_start<D: Deciding>(
     }
 }
 
-// Goes back to the latest split whose right tree is still to come, and begins that tree; None where
-// there is none.
-fn next_tree<D: Domain>(
-    problem: &Problem,
-    cells: &mut Cells<D>,
-    trail: &mut Trail<D>,
-    pending: &mut Vec<Pending>,
-) -> Result<Option<Pending>, NoMemory>
-    requires cells { AreCells D.ops problem.now.terms cells.old }
-    requires within { All (λ change. change.0 < length cells.old) trail.old }
-    requires stacked { Stacked (length trail.old) (reverse pending.old.items) }
-    requires begin { AtSplits (CanBegin D.ops problem.now.terms) cells.old trail.old (reverse pending.old.items) }
-    ensures are { OnOk result (AreCells D.ops problem.now.terms cells.new) }
-    ensures next { IfOk result (λ begun. IsNext D.ops cells.old trail.old (reverse pending.old.items) cells.new trail.new (reverse pending.new.items) begun) }
-    ensures begun { IfOk result (λ begun. IfSome begun (λ q. IsBegun D.ops cells.old trail.old (reverse pending.old.items) cells.new trail.new (reverse pending.new.items) q)) }
-{
-    match pending.pop() {
-        None => Ok(None),
-        Some(split) => {
-            cells.undo(trail, split.length);
-            cells.set_bit_kept(problem, split.term, split.bit, true, trail)?;
-            Ok(Some(split))
-        }
-    }
-}
-
 // Closes the tree at the empty cell of a term, and begins the tree that waited first, if any did.
 fn close_tree<D: Domain>(
     problem: &Problem,
@@ -165,19 +145,22 @@ fn close_tree<D: Domain>(
     trail: &mut Trail<D>,
     pending: &mut Vec<Pending>,
     draft: &mut Draft,
+    trial: &mut Trial,
     term: u32,
 ) -> Result<Option<Pending>, NoMemory>
+    requires trial { IsTrial D.ops problem.now.terms cells.old trail.old trial.old }
     requires cells { AreCells D.ops problem.now.terms cells.old }
     requires within { All (λ change. change.0 < length cells.old) trail.old }
     requires stacked { Stacked (length trail.old) (reverse pending.old.items) }
     requires begin { AtSplits (CanBegin D.ops problem.now.terms) cells.old trail.old (reverse pending.old.items) }
     ensures lines { OnOk result (draft.new.lines ≡ draft.old.lines ++ Close term ∷ []) }
+    ensures trial { OnOk result (IsTrial D.ops problem.now.terms cells.new trail.new trial.new) }
     ensures are { OnOk result (AreCells D.ops problem.now.terms cells.new) }
     ensures next { IfOk result (λ begun. IsNext D.ops cells.old trail.old (reverse pending.old.items) cells.new trail.new (reverse pending.new.items) begun) }
     ensures begun { IfOk result (λ begun. IfSome begun (λ q. IsBegun D.ops cells.old trail.old (reverse pending.old.items) cells.new trail.new (reverse pending.new.items) q)) }
 {
     draft.push(Line::Close { term })?;
-    next_tree(problem, cells, trail, pending)
+    next_tree(problem, cells, trail, pending, trial)
 }
 
 // Splits on a bit of a choice: the tree with the bit 0 is begun, the one with the bit 1 waits.
@@ -214,26 +197,22 @@ fn split_tree<D: Domain>(
 pub(crate) fn turn<D: Deciding, P: Proposer<D>>(
     alloc: Global,
     problem: &Problem,
-    watches: &Watches,
     limit: u64,
     proposer: &mut P,
     search: &mut Search<D>,
-    trial: &mut Trial,
+    tried: &mut Tried,
 ) -> Result<Turned, NoMemory>
-    requires watches { watches.now ≡ watches_of problem.now.terms }
-    requires numbers { length trial.old.numbers.items ≡ length (choices_of problem.now.terms) }
-    requires values { length trial.old.values.items ≡ length problem.now.terms }
+    requires numbers { length tried.old.numbers.items ≡ length (choices_of problem.now.terms) }
     requires at { IsAt D.ops problem.now limit (P.aim proposer.old) search.old }
-    ensures turned { IfOk result (λ turned. IsTurned D.ops problem.now limit (P.aim proposer.old) search.old turned search.new trial.new.numbers.items) }
-    ensures numbers { OnOk result (length trial.new.numbers.items ≡ length (choices_of problem.now.terms)) }
-    ensures values { OnOk result (length trial.new.values.items ≡ length problem.now.terms) }
-    ensures aim { OnOk result (P.aim proposer.new ≡ P.aim proposer.old) }
+    ensures turned { IfOk result (λ turned. IsTurned D.ops problem.now limit (P.aim proposer.old) search.old turned search.new tried.new.numbers.items) }
+    ensures numbers { OnOk result (length tried.new.numbers.items ≡ length (choices_of problem.now.terms)) }
+    ensures aim { P.aim proposer.new ≡ P.aim proposer.old }
 {
     let _ = &problem.terms;
     match settle_start(
         alloc,
         problem,
-        watches,
+        search.trial.watches(),
         search.start,
         &mut search.cells,
         &mut search.trail,
@@ -245,6 +224,7 @@ pub(crate) fn turn<D: Deciding, P: Proposer<D>>(
             &mut search.trail,
             &mut search.pending,
             &mut search.draft,
+            &mut search.trial,
             term,
         )? {
             None => Ok(Turned::Refuted),
@@ -254,15 +234,24 @@ pub(crate) fn turn<D: Deciding, P: Proposer<D>>(
             }
         },
         Settled::Quiet => {
-            if trial.try_numbers(problem, &search.cells, proposer) {
+            let solves = tried.try_numbers(
+                problem,
+                &search.cells,
+                &search.trail,
+                &mut search.trial,
+                proposer,
+            )?;
+            if solves {
                 return Ok(Turned::Found);
             }
-            write_tries(problem, &search.cells, &trial.numbers, &mut search.draft)?;
+            write_tries(&tried.pairs, &mut search.draft)?;
             if search.splits == limit {
                 write_rest(&mut search.draft, search.pending.len())?;
                 return Ok(Turned::Spent);
             }
-            let split = bit_to_split(problem, &search.cells, None);
+            let values = search.trial.values();
+            let hint = search.guide.hint(problem, &search.cells, values)?;
+            let split = bit_to_split(problem, &search.cells, hint);
             split_tree(
                 problem,
                 &mut search.cells,

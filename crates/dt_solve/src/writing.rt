@@ -1,42 +1,21 @@
-ghost use Rattle.std.specs.Prelude.{◌≡◌, ◌==◌, ◌++◌, ◌∷◌, [], length, map, replicate, OnOk, if◌then◌else◌};
-ghost use Rattle.dt_terms.specs.Terms.{choices_of};
-ghost use Rattle.dt_box.specs.Cells.{AreCells};
+ghost use Rattle.std.specs.Prelude.{◌≡◌, ◌++◌, ◌∷◌, [], map, replicate, IfOk, OnOk, if◌then◌else◌};
 ghost use Rattle.dt_log.specs.Trees.{try_line};
-ghost use Rattle.dt_log.specs.declared.line.Line.TheVariants.{Try, Loose, Unvisited};
-ghost use Rattle.dt_check.specs.Trials.{picks};
-ghost use Rattle.dt_solve.specs.Tries.{tries_from};
+ghost use Rattle.dt_log.specs.declared.line.Line.TheVariants.{Loose, Unvisited};
+ghost use Rattle.dt_solve.specs.Untried.{is_try_item, without_tries};
 
 use dt_bits::NoMemory;
-use dt_box::Cells;
-use dt_check::pick_of;
-use dt_domain::Domain;
 use dt_log::{Draft, Line};
-use dt_terms::Problem;
+use std::alloc::Global;
 
-// Writes a Try item where the number isn't the pick.
-fn write_try(draft: &mut Draft, choice: u32, pick: u128, value: u128) -> Result<(), NoMemory>
-    ensures { OnOk result (draft.new.lines ≡ draft.old.lines ++ (if pick == value then [] else Try choice value ∷ [])) }
+// Writes a Try item for each pair of a choice and a number.
+pub(crate) fn write_tries(pairs: &[(u32, u128)], draft: &mut Draft) -> Result<(), NoMemory>
+    ensures { OnOk result (draft.new.lines ≡ draft.old.lines ++ map try_line pairs.now) }
 {
-    if pick == value {
-        return Ok(());
-    }
-    draft.push(Line::Try { choice, value })
-}
-
-// Writes a Try item for each number that isn't the pick.
-pub(crate) fn write_tries<D: Domain>(
-    problem: &Problem,
-    cells: &Cells<D>,
-    numbers: &[u128],
-    draft: &mut Draft,
-) -> Result<(), NoMemory>
-    requires cells { AreCells D.ops problem.now.terms cells.now }
-    requires count { length numbers.now ≡ length (choices_of problem.now.terms) }
-    ensures { OnOk result (draft.new.lines ≡ draft.old.lines ++ map try_line (tries_from 0 (picks D.ops problem.now.terms cells.now) numbers.now)) }
-{
-    for choice in 0..problem.choice_count() {
-        let pick = pick_of(problem, cells, choice);
-        write_try(draft, choice, pick, numbers[choice as usize])?;
+    for pair in pairs {
+        draft.push(Line::Try {
+            choice: pair.0,
+            value: pair.1,
+        })?;
     }
     Ok(())
 }
@@ -50,4 +29,35 @@ pub(crate) fn write_rest(draft: &mut Draft, waiting: usize) -> Result<(), NoMemo
         draft.push(Line::Unvisited)?;
     }
     Ok(())
+}
+
+// Whether an item says what was tried.
+fn is_try(line: Line) -> bool
+    ensures { result ≡ is_try_item line }
+{
+    match line {
+        Line::Try { .. } => true,
+        _ => false,
+    }
+}
+
+// Appends an item, unless it says what was tried.
+fn push_untried(bare: &mut Draft, line: Line) -> Result<(), NoMemory>
+    ensures { OnOk result (bare.new.lines ≡ bare.old.lines ++ (if is_try_item line then [] else line ∷ [])) }
+{
+    if is_try(line) {
+        return Ok(());
+    }
+    bare.push(line)
+}
+
+// The items of a draft but those that say what was tried.
+pub(crate) fn without_tries(alloc: Global, draft: &Draft) -> Result<Draft, NoMemory>
+    ensures { IfOk result (λ bare. bare.lines ≡ without_tries draft.now.lines) }
+{
+    let mut bare = Draft::new(alloc);
+    for at in 0..draft.lines.len() {
+        push_untried(&mut bare, draft.lines.at(at))?;
+    }
+    Ok(bare)
 }

@@ -1,18 +1,19 @@
 -- Steps of the code are steps of the definition.
-use Rattle.std.proofs.Common.{◌≡◌, ◌≢◌, ℕ, suc, ◌+◌, ◌<◌, List, Option, length, get_or, set, cond, eqb, refl, sym, ap, ◌∙◌, subst, ⊎_elim, add-one}
+use Rattle.std.proofs.Common.{◌≡◌, ℕ, ◌+◌, ◌<◌, ◌≤◌, List, Option, None, length, get_or, set, replicate, cond, eqb, refl, sym, ap, ◌∙◌, subst, ⊎_elim, add-one, arith}
 use mathlib.Core.Path.{fun_ext}
-use Rattle.std.proofs.lemmas.List.{get_or-set_same, get_or-set_other, get_or_read}
-use Rattle.std.proofs.lemmas.Bool.{cases_eq, eq-eqb, ne_eqb, cond-true, cond-false}
+use Rattle.std.proofs.lemmas.List.{get_or-set_same, get_or-set_other, get_or_read, get_or_past, get_or-replicate, length-replicate}
+use Rattle.std.proofs.lemmas.Bool.{cases_eq, cases_lt, eq-eqb, ne_eqb, cond-true, cond-false}
 use Rattle.dt_lemmas.proofs.Equalities.{three}
 use Rattle.dt_bits.specs.declared.op.Op.TheVariants.{Not, Or}
 use Rattle.dt_model.specs.ModelData.{Tree, bind, read, branch}
 use Rattle.dt_terms.specs.declared.term.Term.{Term}
 use Rattle.dt_terms.specs.Problem.{ProblemData}
-use Rattle.dt_forms.specs.Placing.{Placed, place}
+use Rattle.dt_forms.specs.Placing.{place}
 use Rattle.dt_forms.specs.Forms.{form_placed}
 use Rattle.dt_table.specs.declared.out.Out.{Out}
 use Rattle.dt_table.specs.Expressions.{form_of}
 use Rattle.dt_table.specs.Passing.{Access, State, Forked, named, with_terms, join, assign, noted, fork, part, next_word, is_cell, passed}
+use Rattle.dt_table.specs.Table.{first_state}
 use Rattle.dt_build.specs.Building.{placed_in}
 use Rattle.dt_unroll.specs.declared.places.Places.{Places}
 use Rattle.dt_unroll.specs.declared.front.Front.{Front}
@@ -130,3 +131,22 @@ read_out a s n x g t o value word e f b h k l m =
 -- a read passes whatever the granule of its table
 pub any_granule : (a : Access) (n x g h t o : ℕ) (e : Tree) (p q : ProblemData) (y z : Front) (out : Out) → Passes a n (read x e g t o) p y q z out → Passes a n (read x e h t o) p y q z out
 any_granule a n x g h t o e p q y z out k = record { goes = k.goes; out = k.out }
+
+-- ---- before any node
+
+copies_at : {X : Type 0} (n i : ℕ) (x : X) → get_or (replicate n x) i x ≡ x
+copies_at n i x = ⊎_elim (λ (l : i < n). get_or-replicate n i x x l) (λ (l : n ≤ i). get_or_past (replicate n x) i x (simp length-replicate l)) (cases_lt i n)
+
+pub none_yet : (n : ℕ) (vars : List (Option ℕ)) → vars ≡ replicate n None → let f : ℕ → Option ℕ = λ v. get_or vars v None in f ≡ (λ _. None)
+none_yet n vars e = fun_ext (λ (v : ℕ). ap (λ (l : List (Option ℕ)). get_or l v None) e ∙ copies_at n v None)
+
+pub only_first : (n bottom one : ℕ) (come : List ℕ) → 0 < n → come ≡ replicate n bottom → let f : ℕ → ℕ = λ k. get_or (set come 0 one) k bottom in f ≡ (λ k. cond (eqb k 0) one bottom)
+only_first n bottom one come l e =
+    let h : 0 < length come = omega (arith, l, ap length e ∙ length-replicate n bottom) in
+    set_at come 0 one bottom h ∙ fun_ext (λ (k : ℕ). ap (λ (l : List ℕ). cond (eqb k 0) one (get_or l k bottom)) e ∙ ap (λ x. cond (eqb k 0) one x) (copies_at n k bottom))
+
+pub first_same : (a : Access) (terms : List Term) (vars : ℕ → Option ℕ) (come : ℕ → ℕ) (word : ℕ) → vars ≡ (λ _. None) → come ≡ (λ k. cond (eqb k 0) a.one_term a.zero_term)
+    → record { terms = terms; vars = vars; come = come; word = word; away = a.zero_term } ≡ first_state a terms word
+first_same a terms vars come word e f =
+    ap (λ (v : ℕ → Option ℕ). let s : State = record { terms = terms; vars = v; come = come; word = word; away = a.zero_term } in s) e
+    ∙ ap (λ (k : ℕ → ℕ). let s : State = record { terms = terms; vars = λ _. None; come = k; word = word; away = a.zero_term } in s) f

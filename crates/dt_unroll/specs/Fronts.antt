@@ -1,8 +1,11 @@
 -- What the code keeps while it goes through the nodes of an access, as data.
-use Rattle.std.specs.Prelude.{◌≡◌, ◌≤◌, ℕ, List, Option, None, length, slice_index_or}
-use Rattle.dt_model.specs.ModelData.{ActData}
+use Rattle.std.specs.Prelude.{◌≡◌, ◌<◌, ◌≤◌, ℕ, List, Option, None, length, slice_index_or, IsSome}
+use Rattle.std.specs.List.{AllByRecursion}
+use Rattle.dt_model.specs.declared.expr.Expr.{Expr}
+use Rattle.dt_model.specs.ModelData.{ActData, tree_of}
 use Rattle.dt_model.specs.Scopes.{scope_of}
-use Rattle.dt_model.specs.Widths.{AreWidths}
+use Rattle.dt_model.specs.Widths.{Scope, AreWidths, HasArities, tree_width}
+use Rattle.dt_walk.specs.Sound.{IsSound}
 use Rattle.dt_terms.specs.Problem.{ProblemData}
 use Rattle.dt_table.specs.Expressions.{Named}
 use Rattle.dt_table.specs.declared.out.Out.{Out}
@@ -59,3 +62,14 @@ blank a x n = record { come = slice_index_or x.come.items n a.zero_term; value =
 pub record IsWhole (f : Frame) (count : ℕ) (x : Front) : Type 0 where
   pub vars : length x.vars.items ≡ length f.places.names.vars.now
   pub come : length x.come.items ≡ count
+
+-- the code can put the node at this position, with this act
+pub record IsReady (f : Frame) (x : Front) (at : ℕ) (act : ActData) : Type 0 where
+  pub frame : IsFrame f
+  pub vars : length x.vars.items ≡ length f.places.names.vars.now
+  pub there : at < length x.come.items
+  pub sound : IsSound (scope_of f.places.names) f.word (length x.come.items) at act
+
+-- each rule has a width over these names, and its operators their operands
+abbrev pub AreRules : Scope → List Expr → Type 0
+AreRules s rules = AllByRecursion (λ e. HasArities (tree_of e) × IsSome (tree_width s (tree_of e))) rules

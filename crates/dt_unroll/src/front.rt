@@ -1,6 +1,8 @@
 use crate::fork::{Edges, Sides, choose};
+use crate::frame::Frame;
 use dt_bits::{NoMemory, Op};
 use dt_build::Builder;
+use std::alloc::Global;
 
 /// How far the nodes of an access were gone through: each variable's term, for each node the term
 /// that tells whether the walk comes to it, the next read's word, and the term that tells that the
@@ -14,9 +16,33 @@ pub struct Front {
 }
 
 impl Front {
-    ghost use Rattle.std.specs.Prelude.{◌≡◌, ◌<◌, ◌+◌, IfOk, OnOk, length};
+    ghost use Rattle.std.specs.Prelude.{◌≡◌, ◌<◌, ◌≤◌, ◌+◌, ◌^◌, IfOk, OnOk, OnErr, length};
     ghost use Rattle.dt_table.specs.Passing.{join, assign, part, noted};
-    ghost use Rattle.dt_unroll.specs.Fronts.{Goes};
+    ghost use Rattle.dt_terms.specs.Problem.{ProblemData};
+    ghost use Rattle.dt_table.specs.Table.{first_state};
+    ghost use Rattle.dt_unroll.specs.Fronts.{access_data, state_of, Goes, IsWhole};
+
+    /// Before any node: no variable has a term, and the walk comes to node 0.
+    ///
+    /// # Errors
+    ///
+    /// `NoMemory` where memory ran out.
+    pub fn new(alloc: Global, frame: &Frame, nodes: usize, word: u32) -> Result<Front, NoMemory>
+        requires { 0 < nodes }
+        ensures state { IfOk result (λ f. (p : ProblemData) →
+            state_of p frame.now.zero f ≡ first_state (access_data frame.now) p.terms word) }
+        ensures whole { IfOk result (λ f. IsWhole frame.now nodes f) }
+    {
+        let vars = vec![in alloc; None; frame.places.names.vars.len()]?;
+        let mut come = vec![in alloc; frame.zero; nodes]?;
+        come[0] = frame.one;
+        Ok(Front {
+            vars,
+            come,
+            word,
+            away: frame.zero,
+        })
+    }
 
     /// Puts a term that tells that the walk doesn't come to the node.
     pub fn note(&mut self, builder: &mut Builder, node: usize) -> Result<(), NoMemory>
@@ -74,6 +100,7 @@ impl Front {
     /// The word of a read, after which the next read has the next word.
     pub fn next_word(&mut self) -> Result<u32, NoMemory>
         ensures word { IfOk result (λ w. w ≡ self.old.word) }
+        ensures too_large { OnErr result (2 ^ 32 ≤ self.old.word + 1) }
         ensures next { OnOk result (self.new ≡ record self.old { word = self.old.word + 1 }) }
     {
         let word = self.word;

@@ -6,11 +6,16 @@
 //! stands for each node. Where a term can't be added or memory ran out it answers `NoMemory`.
 #![tactic(auto)]
 
+mod access;
 mod accesses;
 mod fork;
 mod frame;
 mod front;
+mod layout;
 mod node;
 mod places;
+mod positions;
+mod rules;
+mod walking;
 
 pub use accesses::build_accesses;

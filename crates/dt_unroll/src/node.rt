@@ -1,8 +1,6 @@
 ghost use Rattle.std.specs.Prelude.{◌≡◌, ◌<◌, IfOk, length};
 ghost use Rattle.dt_model.specs.ModelData.{act_of, tree_of, bind, read, branch, done};
-ghost use Rattle.dt_model.specs.Scopes.{scope_of};
-ghost use Rattle.dt_walk.specs.Sound.{IsSound};
-ghost use Rattle.dt_unroll.specs.Fronts.{access_data, blank, IsFrame, IsWhole, Passes};
+ghost use Rattle.dt_unroll.specs.Fronts.{access_data, blank, IsReady, Passes};
 
 use crate::fork::{Sides, fork};
 use crate::frame::{Frame, is_cell};
@@ -38,10 +36,7 @@ fn pass_let(
     value: &Expr,
     next: u32,
 ) -> Result<Out, NoMemory>
-    requires frame { IsFrame frame.now }
-    requires whole { IsWhole frame.now (length front.old.come.items) front.old }
-    requires there { at < length front.old.come.items }
-    requires sound { IsSound (scope_of frame.now.places.names) frame.now.word (length front.old.come.items) at (bind var (tree_of value.now) next) }
+    requires { IsReady frame.now front.old at (bind var (tree_of value.now) next) }
     ensures { IfOk result (λ out. Passes (access_data frame.now) at (bind var (tree_of value.now) next) builder.old front.old builder.new front.new out) }
 {
     let out = blank(frame, front, at);
@@ -65,10 +60,7 @@ fn pass_read(
     cell: &Expr,
     sides: Sides,
 ) -> Result<Out, NoMemory>
-    requires frame { IsFrame frame.now }
-    requires whole { IsWhole frame.now (length front.old.come.items) front.old }
-    requires there { at < length front.old.come.items }
-    requires sound { IsSound (scope_of frame.now.places.names) frame.now.word (length front.old.come.items) at (read var (tree_of cell.now) 0 sides.then_to sides.other) }
+    requires { IsReady frame.now front.old at (read var (tree_of cell.now) 0 sides.then_to sides.other) }
     ensures { IfOk result (λ out. Passes (access_data frame.now) at (read var (tree_of cell.now) 0 sides.then_to sides.other) builder.old front.old builder.new front.new out) }
 {
     let out = blank(frame, front, at);
@@ -96,10 +88,7 @@ fn pass_if(
     test: &Expr,
     sides: Sides,
 ) -> Result<Out, NoMemory>
-    requires frame { IsFrame frame.now }
-    requires whole { IsWhole frame.now (length front.old.come.items) front.old }
-    requires there { at < length front.old.come.items }
-    requires sound { IsSound (scope_of frame.now.places.names) frame.now.word (length front.old.come.items) at (branch (tree_of test.now) sides.then_to sides.other) }
+    requires { IsReady frame.now front.old at (branch (tree_of test.now) sides.then_to sides.other) }
     ensures { IfOk result (λ out. Passes (access_data frame.now) at (branch (tree_of test.now) sides.then_to sides.other) builder.old front.old builder.new front.new out) }
 {
     let out = blank(frame, front, at);
@@ -123,10 +112,7 @@ fn pass_done(
     pa: &Expr,
     page: u32,
 ) -> Result<Out, NoMemory>
-    requires frame { IsFrame frame.now }
-    requires whole { IsWhole frame.now (length front.old.come.items) front.old }
-    requires there { at < length front.old.come.items }
-    requires sound { IsSound (scope_of frame.now.places.names) frame.now.word (length front.old.come.items) at (done (tree_of pa.now) page) }
+    requires { IsReady frame.now front.old at (done (tree_of pa.now) page) }
     ensures { IfOk result (λ out. Passes (access_data frame.now) at (done (tree_of pa.now) page) builder.old front.old builder.new front.new out) }
 {
     let out = blank(frame, front, at);
@@ -142,16 +128,11 @@ pub fn pass(
     at: usize,
     act: &Act,
 ) -> Result<Out, NoMemory>
-    requires frame { IsFrame frame.now }
-    requires whole { IsWhole frame.now (length front.old.come.items) front.old }
-    requires there { at < length front.old.come.items }
-    requires sound { IsSound (scope_of frame.now.places.names) frame.now.word (length front.old.come.items) at (act_of act.now) }
+    requires { IsReady frame.now front.old at (act_of act.now) }
     ensures { IfOk result (λ out. Passes (access_data frame.now) at (act_of act.now) builder.old front.old builder.new front.new out) }
 {
     match act {
-        Act::Let { var, value, next } => {
-            pass_let(builder, frame, front, at, *var, value, *next)
-        }
+        Act::Let { var, value, next } => { pass_let(builder, frame, front, at, *var, value, *next) }
         Act::Read {
             var,
             cell,

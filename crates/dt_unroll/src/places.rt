@@ -7,6 +7,7 @@ ghost use Rattle.dt_table.specs.Expressions.{form_of, var_form};
 ghost use Rattle.dt_build.specs.Building.{placed_in};
 ghost use Rattle.dt_unroll.specs.Fronts.{named_of};
 
+use crate::positions::total;
 use dt_bits::{NoMemory, Width};
 use dt_build::Builder;
 use dt_model::{Expr, Named, Names};
@@ -18,13 +19,6 @@ pub struct Places<'a> {
     pub names: Names<'a>,
     pub regs: u32,
     pub inputs: u32,
-}
-
-// The position of a name, of which the first stands at `first`.
-fn name(first: u32, i: u32) -> Result<u32, NoMemory>
-    ensures { IfOk result (λ t. t ≡ first + i) }
-{
-    first.checked_add(i).ok_or(NoMemory)
 }
 
 // The term of a variable, and the constant 0 of its width where it has none.
@@ -66,8 +60,8 @@ pub fn place_expression(
 {
     match e {
         Expr::Value { width, bits } => builder.number(Width(*width), *bits),
-        Expr::Reg(i) => name(places.regs, *i),
-        Expr::Input(i) => name(places.inputs, *i),
+        Expr::Reg(i) => total(places.regs, *i),
+        Expr::Input(i) => total(places.inputs, *i),
         Expr::Var(i) => variable(builder, places.names.vars, vars, *i),
         Expr::Apply1 { op, a } => {
             let a = place_expression(builder, places, vars, a)?;

@@ -1,15 +1,11 @@
-use Rattle.std.proofs.Common.{◌≡◌, length}
-use Rattle.dt_terms.specs.Terms.{choices_of}
-use Rattle.dt_solve.specs.Searching.{IsAt, left}
+use Rattle.std.proofs.Common.{◌≡◌, ◌-◌, ◌<◌}
 use Rattle.dt_solve.proofs.searching.search.Given as goal
 
-abbrev pub invariant-loop-search : goal.invariant-loop-search
-invariant-loop-search g l = record {
-  at : IsAt g.D.Domain.ops l.problem l.limit (g.P.Proposer.aim l.fn.proposer) l.search;
+abbrev pub invariant-loop-reach : goal.invariant-loop-reach
+invariant-loop-reach g l = record {
   aim : g.P.Proposer.aim l.proposer ≡ g.P.Proposer.aim l.fn.proposer;
-  numbers : length l.trial.numbers.items ≡ length (choices_of l.problem.terms);
-  values : length l.trial.values.items ≡ length l.problem.terms;
+  some : 0 < l.reach;
 }
 
-abbrev pub decreases-loop-search : goal.decreases-loop-search
-decreases-loop-search g l = left l.limit l.search.splits l.search.pending.items
+abbrev pub decreases-loop-reach : goal.decreases-loop-reach
+decreases-loop-reach g l = l.limit - l.reach

@@ -1,4 +1,4 @@
-use Rattle.std.proofs.Common.{ℕ, List, []}
+use Rattle.std.proofs.Common.{[]}
 use Rattle.dt_propagate.proofs.Progress.{progress_none}
 use Rattle.dt_solve.proofs.turning.settle_root.Goals as goal
 

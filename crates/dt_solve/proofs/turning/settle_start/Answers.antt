@@ -1,11 +1,7 @@
-use Rattle.std.proofs.Common.{ℕ, ◌<◌, All, List, [], ◌∷◌, length, sym, ap, ◌∙◌, subst}
-use Rattle.dt_box.specs.Stillness.{HasNoEmpty, IsSettled}
-use Rattle.dt_propagate.specs.Settling.{IsEnd}
+use Rattle.std.proofs.Common.{subst}
 use Rattle.dt_propagate.proofs.Progress.{progress_none}
-use Rattle.dt_lemmas.proofs.Lists.{all_of_one}
 use Rattle.dt_solve.specs.declared.turning.Start.{Start}
-use Rattle.dt_solve.specs.Searching.{IsStart, HasChanged}
-use Rattle.dt_solve.proofs.Moves.{held_all}
+use Rattle.dt_solve.specs.Searching.{IsStart}
 use Rattle.dt_solve.proofs.turning.settle_start.Goals as goal
 
 pub returns-in-Ended-clause-progress : goal.returns-in-Ended-clause-progress

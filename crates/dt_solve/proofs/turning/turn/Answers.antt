@@ -1,16 +1,15 @@
-use Rattle.std.proofs.Common.{◌≡◌, ℕ, ◌+◌, ◌<◌, ◌≤◌, List, [], ◌∷◌, ◌++◌, length, map, reverse, replicate, true, false, Option, Some, None, sym, ap, ◌∙◌, subst, arith, refl}
+use Rattle.std.proofs.Common.{◌≡◌, ℕ, List, [], ◌∷◌, ◌++◌, length, map, reverse, replicate, true, Option, sym, ap, ◌∙◌, subst, arith, refl}
 use Rattle.std.specs.Prelude.{IfSome}
 use Rattle.dt_terms.specs.Problem.{IsProblem}
 use Rattle.dt_box.specs.Stillness.{IsSettled}
 use Rattle.dt_log.specs.declared.line.Line.TheVariants.{Loose, Unvisited}
 use Rattle.dt_log.specs.Trees.{try_line}
-use Rattle.dt_check.specs.Trials.{picks}
-use Rattle.dt_solve.specs.Tries.{tries_from}
 use Rattle.dt_check.specs.declared.pending.Pending.{Pending}
-use Rattle.dt_check.specs.Waiting.{waiting, IsNext, IsBegun}
+use Rattle.dt_check.specs.Waiting.{IsNext, IsBegun}
+use Rattle.dt_check.proofs.Trying.{trial_kept}
 use Rattle.dt_propagate.specs.declared.settling.Settled.{Settled}
 use Rattle.dt_propagate.specs.Settling.{IsEnd}
-use Rattle.dt_solve.specs.Searching.{IsSearching, IsRead}
+use Rattle.dt_solve.specs.Searching.{IsRead}
 use Rattle.dt_solve.proofs.Moves.{moved, closed, begun, refuted, begins}
 use Rattle.dt_solve.proofs.Fails.{spent, splits_on, not_known, no_aim, are_aim}
 use Rattle.dt_solve.proofs.turning.turn.Goals as goal
@@ -44,6 +43,17 @@ close_tree-requires-clause-begin g c =
     let problem : IsProblem p = subst IsProblem c.problem.view_is c.problem.invariant.0 in
     let h = moved D ops p g.met.D.Domain.laws problem g.met.D.Deciding.decides c.args.limit aim s.cells s.trail pending s.draft.lines s.splits cells trail lines c.requires.at.searching c.settle_start.ensures.progress in
     begins D ops p cells trail (reverse pending) h.turns
+
+-- the trial follows the cells that were settled
+pub close_tree-requires-clause-trial : goal.close_tree-requires-clause-trial
+close_tree-requires-clause-trial g c =
+    let s = c.args.search.now in
+    trial_kept g.row.D.Denot g.D.Domain.ops c.args.problem.now.terms s.cells c.settle_start.new.cells s.trail c.settle_start.new.trail s.trial c.settle_start.ensures.progress.kept c.requires.at.trial
+
+pub try_numbers-requires-clause-trial : goal.try_numbers-requires-clause-trial
+try_numbers-requires-clause-trial g c =
+    let s = c.args.search.now in
+    trial_kept g.row.D.Denot g.D.Domain.ops c.args.problem.now.terms s.cells c.settle_start.new.cells s.trail c.settle_start.new.trail s.trial c.settle_start.ensures.progress.kept c.requires.at.trial
 
 pub returns-in-None-clause-turned : goal.returns-in-None-clause-turned
 returns-in-None-clause-turned g c =
@@ -86,10 +96,10 @@ returns-in-Some-clause-turned g c =
     let next = subst (IsNext ops cells trail (reverse pending) new longer rest) c.in-Some.is c.in_ok-close_tree-in-Empty.ensures.next in
     let first = subst (λ (o : Option Pending). IfSome o (IsBegun ops cells trail (reverse pending) new longer rest)) c.in-Some.is c.in_ok-close_tree-in-Empty.ensures.begun in
     let b = begun D ops p g.met.D.Domain.laws problem g.met.D.Deciding.decides c.args.limit aim cells trail pending lines c.close_tree.new.draft.lines s.splits new longer c.close_tree.new.pending.items c.in-Some.split h k.0 k.1 first next in
-    (record { searching = b.0; start = b.1 }, b.2)
+    (record { searching = b.0; start = b.1; trial = c.in_ok-close_tree-in-Empty.ensures.trial }, b.2)
 
-pub returns-then-try_numbers-clause-turned : goal.returns-then-try_numbers-clause-turned
-returns-then-try_numbers-clause-turned g c =
+pub returns-then-solves-clause-turned : goal.returns-then-solves-clause-turned
+returns-then-solves-clause-turned g c =
     let D = g.row.D.Denot in
     let ops = g.D.Domain.ops in
     let p = c.args.problem.now in
@@ -102,10 +112,10 @@ returns-then-try_numbers-clause-turned g c =
     let problem : IsProblem p = subst IsProblem c.problem.view_is c.problem.invariant.0 in
     let h = moved D ops p g.met.D.Domain.laws problem g.met.D.Deciding.decides c.args.limit aim s.cells s.trail pending s.draft.lines s.splits cells trail lines c.requires.at.searching c.settle_start.ensures.progress in
     let numbers = c.try_numbers.new.self.numbers.items in
-    let f = sym c.if-try_numbers.ensures.solves in
-    let told = c.if-try_numbers.ensures.told in
-    let held = c.if-try_numbers.ensures.held in
-    (c.if-try_numbers.ensures.assignment, f, are_aim D ops p cells aim numbers h.cells_are h.aimed told)
+    let f = sym c.in_ok-solves-in-Quiet.ensures.solves ∙ c.if-solves.true in
+    let told = c.try_numbers.ensures.told in
+    let held = c.try_numbers.ensures.held in
+    (c.try_numbers.ensures.assignment, f, are_aim D ops p cells aim numbers h.cells_are h.aimed told)
 
 pub returns-then-search-limit-clause-turned : goal.returns-then-search-limit-clause-turned
 returns-then-search-limit-clause-turned g c =
@@ -122,10 +132,10 @@ returns-then-search-limit-clause-turned g c =
     let h = moved D ops p g.met.D.Domain.laws problem g.met.D.Deciding.decides c.args.limit aim s.cells s.trail pending s.draft.lines s.splits cells trail lines c.requires.at.searching c.settle_start.ensures.progress in
     let quiet = subst (λ (e : Settled). IsEnd ops p.terms e cells (IsSettled ops p.terms cells)) c.in-Quiet.is c.in_ok-term.ensures.end in
     let numbers = c.try_numbers.new.self.numbers.items in
-    let f = sym c.if-try_numbers.ensures.solves in
-    let told = c.if-try_numbers.ensures.told in
-    let held = c.if-try_numbers.ensures.held in
-    let wrote = subst (λ (ns : List ℕ). c.write_tries.new.draft.lines ≡ lines ++ map try_line (tries_from 0 (picks ops p.terms cells) ns)) c.deref.ensures.value c.in_ok-write_tries-in-Quiet.ensures in
+    let f = sym c.in_ok-solves-in-Quiet.ensures.solves ∙ c.if-solves.false in
+    let told = c.try_numbers.ensures.told in
+    let held = c.try_numbers.ensures.held in
+    let wrote = c.in_ok-write_tries-in-Quiet.ensures ∙ ap (λ (pairs : List (ℕ × ℕ)). lines ++ map try_line pairs) (c.deref.ensures.value ∙ c.in_ok-solves-in-Quiet.ensures.pairs) in
     let size : s.pending.len ≡ length pending = omega (arith, c.len.ensures) in
     let r = spent D ops p g.met.D.Domain.laws problem g.met.D.Deciding.decides c.args.limit aim cells trail pending lines s.splits h numbers quiet.1 held f told
     c.write_tries.new.draft.lines c.write_rest.new.draft.lines wrote
@@ -149,10 +159,10 @@ bit_to_split-split-requires-clause-unknown g c =
     let h = moved D ops p g.met.D.Domain.laws problem g.met.D.Deciding.decides c.args.limit aim s.cells s.trail pending s.draft.lines s.splits cells trail lines c.requires.at.searching c.settle_start.ensures.progress in
     let quiet = subst (λ (e : Settled). IsEnd ops p.terms e cells (IsSettled ops p.terms cells)) c.in-Quiet.is c.in_ok-term.ensures.end in
     let numbers = c.try_numbers.new.self.numbers.items in
-    let f = sym c.if-try_numbers.ensures.solves in
-    let told = c.if-try_numbers.ensures.told in
-    let held = c.if-try_numbers.ensures.held in
-    not_known D ops p g.met.D.Domain.laws problem g.met.D.Deciding.decides cells numbers h.cells_are quiet.1 h.required c.if-try_numbers.ensures.assignment held f
+    let f = sym c.in_ok-solves-in-Quiet.ensures.solves ∙ c.if-solves.false in
+    let told = c.try_numbers.ensures.told in
+    let held = c.try_numbers.ensures.held in
+    not_known D ops p g.met.D.Domain.laws problem g.met.D.Deciding.decides cells numbers h.cells_are quiet.1 h.required c.try_numbers.ensures.assignment held f
 
 pub returns-in_ok-split_tree-in-Quiet-clause-turned : goal.returns-in_ok-split_tree-in-Quiet-clause-turned
 returns-in_ok-split_tree-in-Quiet-clause-turned g c =
@@ -169,16 +179,17 @@ returns-in_ok-split_tree-in-Quiet-clause-turned g c =
     let h = moved D ops p g.met.D.Domain.laws problem g.met.D.Deciding.decides c.args.limit aim s.cells s.trail pending s.draft.lines s.splits cells trail lines c.requires.at.searching c.settle_start.ensures.progress in
     let quiet = subst (λ (e : Settled). IsEnd ops p.terms e cells (IsSettled ops p.terms cells)) c.in-Quiet.is c.in_ok-term.ensures.end in
     let numbers = c.try_numbers.new.self.numbers.items in
-    let f = sym c.if-try_numbers.ensures.solves in
-    let told = c.if-try_numbers.ensures.told in
-    let held = c.if-try_numbers.ensures.held in
+    let f = sym c.in_ok-solves-in-Quiet.ensures.solves ∙ c.if-solves.false in
+    let told = c.try_numbers.ensures.told in
+    let held = c.try_numbers.ensures.held in
     let most = c.requires.at.searching.most in
     let other = c.if-search-limit.false in
-    let wrote = subst (λ (ns : List ℕ). c.write_tries.new.draft.lines ≡ lines ++ map try_line (tries_from 0 (picks ops p.terms cells) ns)) c.deref.ensures.value c.in_ok-write_tries-in-Quiet.ensures in
+    let wrote = c.in_ok-write_tries-in-Quiet.ensures ∙ ap (λ (pairs : List (ℕ × ℕ)). lines ++ map try_line pairs) (c.deref.ensures.value ∙ c.in_ok-solves-in-Quiet.ensures.pairs) in
     let split = c.bit_to_split-split.result in
     let q : Pending = record { length = length trail; term = split.term; bit = split.bit } in
     let b = splits_on D ops p g.met.D.Domain.laws problem g.met.D.Deciding.decides c.args.limit aim cells trail pending lines s.splits h numbers quiet.1 held f told
     c.write_tries.new.draft.lines c.split_tree.new.draft.lines c.split_tree.new.cells c.split_tree.new.trail q c.split_tree.new.pending.items
     c.bit_to_split-split.ensures (omega arith) wrote c.in_ok-split_tree-in-Quiet.ensures.lines refl c.in_ok-split_tree-in-Quiet.ensures.pending
     c.in_ok-split_tree-in-Quiet.ensures.cells c.in_ok-split_tree-in-Quiet.ensures.kept (no_aim D ops p aim numbers (are_aim D ops p cells aim numbers h.cells_are h.aimed told) f) in
-    (record { searching = b.0; start = b.1 }, b.2)
+    let t = trial_kept D ops p.terms cells c.split_tree.new.cells trail c.split_tree.new.trail c.try_numbers.new.trial c.in_ok-split_tree-in-Quiet.ensures.kept c.in_ok-solves-in-Quiet.ensures.trial in
+    (record { searching = b.0; start = b.1; trial = t }, b.2)

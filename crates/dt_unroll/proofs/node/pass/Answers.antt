@@ -2,7 +2,7 @@ use Rattle.std.proofs.Common.{sym, subst}
 use Rattle.std.specs.Prelude.{IfOk}
 use Rattle.std.proofs.lemmas.Result.{IfOk-weaker}
 use Rattle.dt_model.specs.declared.model.Act.{Act}
-use Rattle.dt_model.specs.ModelData.{act_of, tree_of}
+use Rattle.dt_model.specs.ModelData.{act_of}
 use Rattle.dt_unroll.specs.Fronts.{access_data, Passes}
 use Rattle.dt_unroll.proofs.Steps.{any_granule}
 use Rattle.dt_unroll.proofs.node.pass.Goals as goal

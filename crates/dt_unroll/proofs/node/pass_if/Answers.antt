@@ -22,7 +22,7 @@ returns c =
     let come : (none : ℕ) → c.blank-out.result.come ≡ get_or x.come.items c.args.at none = λ none. ap (λ (o : Out). o.come) c.blank-out.ensures ∙ get_or_default x.come.items c.args.at a.zero_term none c.requires.there in
     let f : Forked = record { terms = c.fork.new.builder.terms; by_then = c.in_ok-edges.edges.by_then; by_other = c.in_ok-edges.edges.by_other } in
     let forked : (none : ℕ) → f ≡ fork w.terms (get_or x.come.items c.args.at none) w.at = λ none. fork_is q.terms w.terms c.fork.new.builder.terms c.blank-out.result.come (get_or x.come.items c.args.at none) c.in_ok-value.value w.at c.in_ok-edges.edges.by_then c.in_ok-edges.edges.by_other
-        (ap (λ (r : ProblemData). r.terms) v.placed) (come none) v.at c.in_ok-edges.ensures.terms c.in_ok-edges.ensures.by_then c.in_ok-edges.ensures.by_other in
+    (ap (λ (r : ProblemData). r.terms) v.placed) (come none) v.at c.in_ok-edges.ensures.terms c.in_ok-edges.ensures.by_then c.in_ok-edges.ensures.by_other in
     record {
       goes = record {
         state = λ none. branch_state a (state_of p none x) (state_of c.fork.new.builder none x) (state_of c.part.new.builder none c.part.new.self) c.args.at c.args.sides.then_to c.args.sides.other c.blank-out.result.come c.in_ok-value.value e f (forked none) refl (c.in_ok-part.ensures.state none);

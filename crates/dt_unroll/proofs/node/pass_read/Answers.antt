@@ -1,9 +1,9 @@
-use Rattle.std.proofs.Common.{◌≡◌, ℕ, get_or, ap, ◌∙◌, refl, length}
+use Rattle.std.proofs.Common.{◌≡◌, ℕ, get_or, ap, ◌∙◌, length}
 use Rattle.std.proofs.lemmas.List.{get_or_default}
 use Rattle.dt_model.specs.ModelData.{tree_of}
 use Rattle.dt_terms.specs.Problem.{ProblemData}
 use Rattle.dt_table.specs.declared.out.Out.{Out}
-use Rattle.dt_table.specs.Passing.{Forked, State, fork, is_cell, with_terms, next_word}
+use Rattle.dt_table.specs.Passing.{Forked, fork, is_cell}
 use Rattle.dt_forms.specs.Forms.{form_placed}
 use Rattle.dt_table.specs.Expressions.{form_of}
 use Rattle.dt_unroll.specs.declared.front.Front.{Front}
@@ -28,7 +28,7 @@ returns c =
     let come : (none : ℕ) → c.blank-out.result.come ≡ get_or x.come.items n none = λ none. ap (λ (o : Out). o.come) c.blank-out.ensures ∙ get_or_default x.come.items n a.zero_term none c.requires.there in
     let f : Forked = record { terms = c.fork.new.builder.terms; by_then = c.in_ok-edges.edges.by_then; by_other = c.in_ok-edges.edges.by_other } in
     let forked : (none : ℕ) → f ≡ fork m.terms (get_or x.come.items n none) m.at = λ none. fork_is c.is_cell.new.builder.terms m.terms c.fork.new.builder.terms c.blank-out.result.come (get_or x.come.items n none) c.in_ok-made.made m.at c.in_ok-edges.edges.by_then c.in_ok-edges.edges.by_other
-        cell (come none) made c.in_ok-edges.ensures.terms c.in_ok-edges.ensures.by_then c.in_ok-edges.ensures.by_other in
+    cell (come none) made c.in_ok-edges.ensures.terms c.in_ok-edges.ensures.by_then c.in_ok-edges.ensures.by_other in
     record {
       goes = record {
         state = λ none. read_state a (state_of p none x) (state_of c.fork.new.builder none c.next_word.new.self) (state_of c.assign.new.builder none c.assign.new.self) (state_of c.part.new.builder none c.part.new.self) n c.args.var 0 c.args.sides.then_to c.args.sides.other c.in_ok-word.word e f (forked none)

@@ -1,0 +1,10 @@
+use Rattle.std.proofs.Common.{◌≡◌, ◌++◌, map, drop}
+use Rattle.std.specs.List.{flat_map}
+use Rattle.dt_model.specs.ModelData.{data_of}
+use Rattle.dt_model.specs.Faults.{steps}
+use Rattle.dt_table.specs.Apart.{pages_at}
+use Rattle.dt_claims.specs.Views.{sized, rows_of}
+use Rattle.dt_claims.proofs.claims.push_all_pages.Given as goal
+
+abbrev pub invariant-loop-row : goal.invariant-loop-row
+invariant-loop-row l = map sized l.pages.items ++ flat_map (pages_at (steps (data_of l.model))) (rows_of (drop l.row-index l.rows)) ≡ map sized l.initial.pages.items ++ flat_map (pages_at (steps (data_of l.model))) (rows_of l.rows)

@@ -1,0 +1,82 @@
+ghost use Rattle.std.specs.Prelude.{◌≡◌, ◌∷◌, [], map, max, IfOk, OnOk};
+ghost use Rattle.std.specs.List.{flat_map};
+ghost use Rattle.dt_build.specs.Building.{demanded, placed_in};
+ghost use Rattle.dt_forms.specs.Forms.{form_placed};
+ghost use Rattle.dt_table.specs.Apart.{same_block, apart_form, apart_forms};
+ghost use Rattle.dt_claims.specs.Views.{sized, access_of};
+
+use crate::places::Places;
+use crate::sized::SizedOut;
+use dt_bits::NoMemory;
+use dt_build::Builder;
+
+/// Where the term stands that tells whether two addresses lie in one block of this exponent.
+pub(crate) fn same_block(
+    builder: &mut Builder,
+    places: Places,
+    exponent: u32,
+    a: u32,
+    b: u32,
+) -> Result<u32, NoMemory>
+    ensures at { IfOk result (λ t. t ≡ (form_placed builder.old.terms (same_block (access_of places) exponent a b)).at) }
+    ensures placed { OnOk result (builder.new ≡ placed_in builder.old (form_placed builder.old.terms (same_block (access_of places) exponent a b))) }
+{
+    if places.address <= exponent {
+        return Ok(places.one);
+    }
+    let first = builder.block(exponent, a)?;
+    let second = builder.block(exponent, b)?;
+    builder.same(first, second)
+}
+
+/// Requires that two blocks don't overlap, where the walks come to the first node and the term `other`
+/// is 1.
+pub(crate) fn require_apart(
+    builder: &mut Builder,
+    places: Places,
+    page: SizedOut,
+    block: SizedOut,
+    other: u32,
+) -> Result<(), NoMemory>
+    ensures { OnOk result (builder.new ≡ demanded builder.old (apart_form (access_of places) (λ _. other) (sized page) (sized block) ∷ [])) }
+{
+    let both = builder.both(page.out.come, other)?;
+    let exponent = page.exponent.max(block.exponent);
+    let same = same_block(builder, places, exponent, page.out.value, block.out.value)?;
+    let overlap = builder.both(both, same)?;
+    let apart = builder.not(overlap)?;
+    builder.require(apart)
+}
+
+// The page overlaps no table whose read is made.
+fn require_page_apart(
+    builder: &mut Builder,
+    places: Places,
+    page: SizedOut,
+    tables: &[SizedOut],
+) -> Result<(), NoMemory>
+    ensures { OnOk result (builder.new ≡ demanded builder.old
+        (map (apart_form (access_of places) (λ o. o.by_then) (sized page)) (map sized tables.now))) }
+{
+    for table in tables {
+        require_apart(builder, places, page, *table, table.out.by_then)?;
+    }
+    Ok(())
+}
+
+/// Requires that no page overlaps a table whose read is made. It takes time for each page with each
+/// table.
+pub(crate) fn require_pages_apart(
+    builder: &mut Builder,
+    places: Places,
+    pages: &[SizedOut],
+    tables: &[SizedOut],
+) -> Result<(), NoMemory>
+    ensures { OnOk result (builder.new ≡ demanded builder.old
+        (apart_forms (access_of places) (map sized pages.now) (map sized tables.now))) }
+{
+    for page in pages {
+        require_page_apart(builder, places, *page, tables)?;
+    }
+    Ok(())
+}

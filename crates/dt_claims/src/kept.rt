@@ -1,0 +1,127 @@
+ghost use Rattle.std.specs.Prelude.{◌≡◌, ◌∷◌, [], ◌<◌, map, IfOk, OnOk};
+ghost use Rattle.std.specs.List.{flat_map};
+ghost use Rattle.dt_build.specs.Building.{demanded, placed_in};
+ghost use Rattle.dt_forms.specs.Forms.{form_placed};
+ghost use Rattle.dt_table.specs.Kept.{touches_form, kept_form, kept_forms};
+ghost use Rattle.dt_claims.specs.Views.{sized, access_of};
+
+use crate::places::Places;
+use crate::sized::SizedOut;
+use crate::terms::{number, quotient};
+use dt_bits::NoMemory;
+use dt_build::Builder;
+use dt_request::KeptRange;
+
+// Where the term stands that tells whether the block of an address touches the range, which isn't
+// empty.
+fn touches(
+    builder: &mut Builder,
+    places: Places,
+    exponent: u32,
+    kept: KeptRange,
+    address: u32,
+) -> Result<u32, NoMemory>
+    ensures at { IfOk result (λ t. t ≡ (form_placed builder.old.terms (touches_form (access_of places) exponent kept address)).at) }
+    ensures placed { OnOk result (builder.new ≡ placed_in builder.old (form_placed builder.old.terms (touches_form (access_of places) exponent kept address))) }
+{
+    if places.address <= exponent {
+        return Ok(places.one);
+    }
+    let last = number(
+        builder,
+        places.address,
+        quotient(kept.hi.saturating_sub(1), exponent),
+    )?;
+    let block = builder.block(exponent, address)?;
+    let above = builder.less(last, block)?;
+    let reached = builder.not(above)?;
+    let block = builder.block(exponent, address)?;
+    let first = number(builder, places.address, quotient(kept.lo, exponent))?;
+    let below = builder.less(block, first)?;
+    let begun = builder.not(below)?;
+    builder.both(reached, begun)
+}
+
+// Where the term is 1, the block doesn't touch the range.
+fn require_kept(
+    builder: &mut Builder,
+    places: Places,
+    kept: KeptRange,
+    block: SizedOut,
+    made: u32,
+) -> Result<(), NoMemory>
+    ensures { OnOk result (builder.new ≡ demanded builder.old (kept_form (access_of places) kept (λ _. made) (sized block) ∷ [])) }
+{
+    let touched = touches(builder, places, block.exponent, kept, block.out.value)?;
+    let both = builder.both(made, touched)?;
+    let free = builder.not(both)?;
+    builder.require(free)
+}
+
+// No page to which the walk comes touches the range.
+fn require_pages_kept(
+    builder: &mut Builder,
+    places: Places,
+    pages: &[SizedOut],
+    kept: KeptRange,
+) -> Result<(), NoMemory>
+    ensures { OnOk result (builder.new ≡ demanded builder.old
+        (map (kept_form (access_of places) kept (λ o. o.come)) (map sized pages.now))) }
+{
+    for page in pages {
+        require_kept(builder, places, kept, *page, page.out.come)?;
+    }
+    Ok(())
+}
+
+// No table whose read is made touches the range.
+fn require_tables_kept(
+    builder: &mut Builder,
+    places: Places,
+    tables: &[SizedOut],
+    kept: KeptRange,
+) -> Result<(), NoMemory>
+    ensures { OnOk result (builder.new ≡ demanded builder.old
+        (map (kept_form (access_of places) kept (λ o. o.by_then)) (map sized tables.now))) }
+{
+    for table in tables {
+        require_kept(builder, places, kept, *table, table.out.by_then)?;
+    }
+    Ok(())
+}
+
+// No page and no table touches the range.
+fn require_range_kept(
+    builder: &mut Builder,
+    places: Places,
+    pages: &[SizedOut],
+    tables: &[SizedOut],
+    kept: KeptRange,
+) -> Result<(), NoMemory>
+    ensures { OnOk result (builder.new ≡ demanded builder.old
+        (kept_forms (access_of places) (map sized pages.now) (map sized tables.now) kept)) }
+{
+    if kept.lo >= kept.hi {
+        return Ok(());
+    }
+    require_pages_kept(builder, places, pages, kept)?;
+    require_tables_kept(builder, places, tables, kept)
+}
+
+/// Requires for each range that no page to which a walk comes and no table that a walk reads touches
+/// it. It takes time for each range with each page and table.
+pub(crate) fn require_ranges_kept(
+    builder: &mut Builder,
+    places: Places,
+    pages: &[SizedOut],
+    tables: &[SizedOut],
+    ranges: &[KeptRange],
+) -> Result<(), NoMemory>
+    ensures { OnOk result (builder.new ≡ demanded builder.old
+        (flat_map (kept_forms (access_of places) (map sized pages.now) (map sized tables.now)) ranges.now)) }
+{
+    for kept in ranges {
+        require_range_kept(builder, places, pages, tables, *kept)?;
+    }
+    Ok(())
+}

@@ -1,0 +1,90 @@
+//! Measures the problems of lists. Its words name a file with a model and one with a list for it; the
+//! problem of the list is built, and the values of its terms are found for the number 0 of each
+//! choice. On standard error stands how many terms there are and how many are required, and how many
+//! milliseconds both took. Without words it does the same for a small list, and prints no figure.
+//!
+//! Proved: each call is made where its conditions hold, and the program ends.
+//! Only tested: that it runs. The figures are the machine's.
+#![tactic(auto)]
+
+ghost use Rattle.std.specs.Prelude.{IfOk};
+ghost use Rattle.dt_model.specs.Accepted.{accepted_data};
+ghost use Rattle.dt_request.specs.Lists.{IsList};
+
+mod stop;
+
+use crate::stop::Stop;
+use dt_encode::encode;
+use dt_model::Accepted;
+use dt_modeltext::read_model;
+use dt_request::{Requests, read_requests};
+use dt_terms::Problem;
+use std::alloc::Global;
+use std::time::Instant;
+use std::{env, fs};
+
+const MODEL: &str = "model 1\nword 64\naddress 16\nreg base 16\nvar w 64\nnode s read w base 12 d f\nnode f fault 1\nnode d done (slice 15 0 w) 12\nend\n";
+
+const LIST: &str = "requests 1\ntables 0x1000 0x2000\ncontext c0\naccess a0 c0\nends done\nend\n";
+
+/// The model that a text spells.
+fn model(alloc: Global, text: &[u8]) -> Result<Accepted, Stop> {
+    if text.len() >= u32::MAX as usize {
+        return Err(Stop::Long);
+    }
+    Ok(read_model(alloc, text)?)
+}
+
+/// The list that a text spells.
+fn list(alloc: Global, model: &Accepted, text: &[u8]) -> Result<Requests, Stop>
+    ensures { IfOk result (IsList (accepted_data model.now)) }
+{
+    if text.len() >= u32::MAX as usize {
+        return Err(Stop::Long);
+    }
+    Ok(read_requests(alloc, model, text)?)
+}
+
+/// Whether the number 0 for each choice solves the problem.
+fn zeros_solve(alloc: Global, problem: &Problem) -> Result<bool, Stop> {
+    let zeros = vec![in alloc; 0u128; problem.choice_count() as usize]?;
+    let mut values = vec![in alloc; 0u128; problem.terms.len()]?;
+    Ok(problem.is_assignment(&zeros) && problem.eval(&zeros, &mut values))
+}
+
+/// Builds the problem of a small list, and finds the values of its terms.
+fn try_small(rt: &HostRuntime) -> Result<(), Stop> {
+    let model = model(rt.alloc(), MODEL.as_bytes())?;
+    let list = list(rt.alloc(), &model, LIST.as_bytes())?;
+    let problem = encode(rt.alloc(), &model, &list)?;
+    let solved = zeros_solve(rt.alloc(), &problem)?;
+    let terms = problem.terms.len();
+    println!(rt; "{terms} terms, zeros solve {solved}: every call ran")?;
+    Ok(())
+}
+
+/// Builds the problem of the list in a file, finds the values of its terms, and tells how long
+/// each took.
+fn measure(rt: &HostRuntime, model_path: &str, list_path: &str) -> Result<(), Stop> {
+    let model = model(rt.alloc(), fs::read(rt, model_path)?.as_slice())?;
+    let list = list(rt.alloc(), &model, fs::read(rt, list_path)?.as_slice())?;
+    let start = Instant::now(rt)?;
+    let problem = encode(rt.alloc(), &model, &list)?;
+    let taken = start.elapsed(rt)?.as_millis();
+    let terms = problem.terms.len();
+    let required = problem.required.len();
+    eprintln!(rt; "built {terms} terms, {required} required: {taken} ms")?;
+    let start = Instant::now(rt)?;
+    let solved = zeros_solve(rt.alloc(), &problem)?;
+    let taken = start.elapsed(rt)?.as_millis();
+    eprintln!(rt; "values of {terms} terms: {taken} ms, zeros solve {solved}")?;
+    Ok(())
+}
+
+fn main(rt: HostRuntime) -> Result<(), Stop> {
+    let mut words = env::args(&rt)?;
+    match (words.nth(1), words.next()) {
+        (Some(model), Some(list)) => measure(&rt, model.as_str(), list.as_str()),
+        _ => try_small(&rt),
+    }
+}
