@@ -15,6 +15,7 @@ PAGE = TOP / "docs" / "definitions.md"
 WORD = re.compile(r"[A-Za-z_][A-Za-z0-9_']*")
 IMPORT = re.compile(r"ghost use Rattle\.(dt_\w+)\.specs\.([\w.]+)\.\{([^}]*)\}")
 DEFINED = re.compile(r"^(?:abbrev |unfoldable )?pub (?:record |data )?(\w[\w']*)", re.MULTILINE)
+CONSTRUCTOR = re.compile(r"^  (\w[\w']*) : ", re.MULTILINE)
 
 
 def crates():
@@ -92,9 +93,12 @@ def listed():
 
 
 def stands(crate, file, name):
-    """Whether the file of the crate's specs/ has this definition."""
+    """Whether the file of the crate's specs/ has this definition, or a constructor of this name."""
     path = TOP / "crates" / crate / "specs" / file
-    return path.exists() and name in DEFINED.findall(path.read_text())
+    if not path.exists():
+        return False
+    text = path.read_text()
+    return name in DEFINED.findall(text) + CONSTRUCTOR.findall(text)
 
 
 def main():

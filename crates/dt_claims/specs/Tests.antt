@@ -2,8 +2,8 @@
 use Rattle.std.specs.Prelude.{ℕ}
 use Rattle.dt_forms.specs.Forms.{Form}
 use Rattle.dt_table.specs.Demands.{is_masked_form, is_within_form}
-use Rattle.dt_claims.specs.declared.tests.Test.{Test}
-use Rattle.dt_claims.specs.declared.tests.Test.TheVariants.{Masked, Within}
+use Rattle.dt_claims.specs.declared.numbers.Test.{Test}
+use Rattle.dt_claims.specs.declared.numbers.Test.TheVariants.{Masked, Within}
 
 -- the test of a number of w bits that stands at a position
 abbrev pub test_form : ℕ → Test → ℕ → Form

@@ -11,11 +11,11 @@ ghost use Rattle.dt_claims.specs.Tests.{test_form};
 ghost use Rattle.dt_claims.specs.Views.{access_of};
 
 use crate::ends::{Ending, require_ends};
+use crate::numbers::{Test, require_result_tests, require_test};
 use crate::outs::{edge_at, out_at};
 use crate::places::Places;
 use crate::sized::push_pages;
 use crate::terms::offset;
-use crate::tests::{Test, require_result_tests, require_test};
 use crate::widths::quantity_width;
 use dt_bits::NoMemory;
 use dt_build::Builder;
