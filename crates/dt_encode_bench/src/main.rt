@@ -23,7 +23,8 @@ use std::alloc::Global;
 use std::time::Instant;
 use std::{env, fs};
 
-const MODEL: &str = "model 1\nword 64\naddress 16\nreg base 16\nvar w 64\nnode s read w base 12 d f\nnode f fault 1\nnode d done (slice 15 0 w) 12\nend\n";
+const MODEL: &str =
+    "model 1\nword 64\naddress 16\nreg base 16\nvar w 64\nnode s read w base 12 d f\nnode f fault 1\nnode d done (slice 15 0 w) 12\nend\n";
 
 const LIST: &str = "requests 1\ntables 0x1000 0x2000\ncontext c0\naccess a0 c0\nends done\nend\n";
 
