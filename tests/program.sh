@@ -186,6 +186,53 @@ sed 's/^tables.*/tables 0x80000000 0x80000000/' wide_list >odd
 begins 'no table memory' 1 impossible solve @sv39 odd 1000 1
 closes @sv39 odd
 
+sed 's/^via d12$/ends fault 5/; s/^end$/bits reg satp 0xf000000000000000 0x8000000000000000\nend/' odd >no_read
+begins 'a fault without table memory' 0 'image 1' solve @sv39 no_read 1000 1
+meets @sv39 no_read
+cat >one_entry <<'END'
+requests 1
+tables 0x80000000 0x80100000
+context c0
+access a0 c0
+bits word r0 0x1 0x1
+access a1 c0
+bits word r0 0x1 0x0
+share cell a0 r0 a1 r0
+end
+END
+begins 'an entry that is valid and is not' 1 impossible solve @sv39 one_entry 1000 1
+closes @sv39 one_entry
+
+# Kept memory, and three accesses of which two ask for another word at one cell.
+for range in '0x4000 0x5000' '0x2fff 0x3000' '0x3000 0x3000'; do
+    sed "s/^requests 1\$/requests 2/; 2s/\$/\nkeep $range/" demands >kept
+    row "keeping $range" 0 "$(cat image)\n" solve t1 kept 0 1
+done
+sed '1s/1/2/; 2s/$/\nkeep 0x3000 0x3001/' demands >kept
+begins 'a page in kept memory' 1 impossible solve t1 kept 100 1
+closes t1 kept
+cat >three <<'END'
+requests 1
+tables 0x1000 0x2000
+context c0
+access a0 c0
+bits reg base 0xffff 0x1000
+bits in x 0xff 0x2
+bits word s 0xffffffffffffffff 0x3001
+access a1 c0
+bits reg base 0xffff 0x1000
+bits in x 0xff 0x2
+bits word s 0xffffffffffffffff 0x3000
+access a2 c0
+ends fault 13
+end
+END
+begins 'one cell and two words' 1 impossible solve t1 three 1000 1
+closes t1 three
+sed '11d' three >odd
+begins 'one cell and one word' 0 'image 1' solve t1 odd 10000 1
+meets t1 odd
+
 # Lists that are too large, and logs from anywhere.
 { printf 'model 1\nword 64\naddress 16\n'; for v in a b c d e; do echo "var $v 64"; done
     echo 'node r1 read a 16:0x1000 12 r2 f'; echo 'node r2 read b 16:0x1000 12 r3 f'; echo 'node r3 read c 16:0x1000 12 r4 f'
