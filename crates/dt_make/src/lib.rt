@@ -5,7 +5,7 @@
 //!
 //! Proved: `make_requests` gives exactly the list of `specs/Made`, which is a list of the model, or
 //! `OutOfRange` exactly where a list of so many accesses can't be made; want of memory alone may
-//! come in its place. The inputs and nodes that the list names by their positions are those of the
+//! come in its place. `can_be_made` tells where one can. The inputs and nodes that the list names by their positions are those of the
 //! names `va`, `kind`, `user`, `r0`, `d12`, `d21` and `d30`.
 //!
 //! Not proved: that an image satisfies the list.
@@ -17,4 +17,4 @@ mod links;
 mod making;
 
 pub use fault::MakeFault;
-pub use making::make_requests;
+pub use making::{can_be_made, make_requests};

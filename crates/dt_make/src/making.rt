@@ -17,6 +17,13 @@ use std::alloc::Global;
 /// The most accesses of a list.
 const MOST: u64 = 64;
 
+/// Whether a list of so many accesses can be made: there is one, and they aren't above 64.
+pub fn can_be_made(n: u64) -> bool
+    ensures { result ≡ can_be_made n }
+{
+    n != 0 && n <= MOST
+}
+
 // Where tables lie: sixteen megabytes.
 const LO: u128 = 0x8000_0000;
 
