@@ -60,6 +60,16 @@ begins() {
     fi
 }
 
+# same NAME WANTED GOT: two words are the same.
+same() {
+    if [ "$2" = "$3" ]; then
+        passed=$((passed + 1))
+    else
+        failed=$((failed + 1))
+        echo "FAILED: $1: $3 in place of $2"
+    fi
+}
+
 # meets MODEL LIST: `replay` finds that the image that was just printed meets the list.
 meets() { row "$name, judged" 0 'satisfies\n' replay "$1" "$2" answer; }
 
@@ -476,6 +486,24 @@ row 'a walk of too many words' 3 'refused words\n' walk @sv39 sv39_image sv39_im
 row 'a model that is not shipped' 3 'refused words\n' model @sv40
 row 'a model of a file' 3 'refused words\n' model sv39_model
 row 'a model with a further word' 3 'refused words\n' model @sv39 sv39_image
+two='requests 1\ntables 0x80000000 0x81000000\ncontext c0\naccess a0 c0\nends done\nvia d12\nbits in kind 0x3 0x0\nbits in user 0x1 0x0\nrange in va 0x0 0x3fffffff\naccess a1 c0\nends done\nvia d12\nbits in kind 0x3 0x1\nbits in user 0x1 0x0\nrange in va 0x40000000 0x7fffffff\napart page a0 a1\nshare table a0 r0 a1 r0\nend\n'
+row 'a generated list of two accesses' 0 "$two" make 2
+row 'another spelling of two' 0 "$two" make 0x2
+row 'a generated list of no access' 3 'refused words\n' make 0
+row 'a generated list of 65 accesses' 3 'refused words\n' make 65
+row 'a generated list of 2^64 accesses' 3 'refused words\n' make 18446744073709551616
+row 'a generated list of no number' 3 'refused words\n' make x
+row 'a generated list without a number' 3 'refused words\n' make
+row 'a generated list with a further word' 3 'refused words\n' make 2 2
+begins 'a generated list of 64 accesses' 0 'requests 1' make 64
+row 'all its accesses' 0 "$(cat answer)\n" make 64
+same 'so many accesses' 64 "$(grep -c '^access ' answer)"
+same 'its last line' end "$(tail -n 1 answer)"
+for n in 2 4 16; do
+    "$program" make $n >made_list
+    begins "a generated list of $n accesses, solved" 0 'image 1' solve @sv39 made_list 10000 1
+    meets @sv39 made_list
+done
 row 'a walk of an absent image' 7 'read fault image\n' walk @sv39 none
 row 'a walk of a list' 6 'refused image line 1 form\n' walk @sv39 sv39_list
 row 'a walk of an image of another model' 6 'refused image line 3 shape\n' walk @sv39 image

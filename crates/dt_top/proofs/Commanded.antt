@@ -47,6 +47,7 @@ use Rattle.dt_top.specs.commands.Check.{IsRefusedItem, JudgingLog, CheckingBytes
 use Rattle.dt_top.specs.commands.Replay.{Judging}
 use Rattle.dt_top.specs.commands.Walk.{WalkingBytes}
 use Rattle.dt_top.specs.commands.Model.{Printing}
+use Rattle.dt_top.specs.commands.Make.{made_text, Making}
 use Rattle.dt_modeltext.specs.Print.{printed}
 use Rattle.dt_walktext.specs.Printed.{walks_text}
 use Rattle.dt_top.specs.declared.file.File.{File}
@@ -424,3 +425,7 @@ replies_no_walks d bytes came text h = ends_on no_reads (OnModelImage d bytes (�
 pub replies_printed : (m : Shipped) (reply : Reply) (text : List ℕ) → text ≡ printed (shipped_data m) → reply.status ≡ status.Good → bytes_of reply.text ≡ text
     → Replies (Printing (record { model = m })) reply.status (bytes_of reply.text)
 replies_printed m reply text e s t = ends_as no_reads (Printing (record { model = m })) status.Good reply.status (printed (shipped_data m)) (bytes_of reply.text) s (t ∙ e) ([], refl, refl)
+
+pub replies_made : (n : ℕ) (reply : Reply) (text : List ℕ) → text ≡ made_text n → reply.status ≡ status.Good → bytes_of reply.text ≡ text
+    → Replies (Making (record { n = n })) reply.status (bytes_of reply.text)
+replies_made n reply text e s t = ends_as no_reads (Making (record { n = n })) status.Good reply.status (made_text n) (bytes_of reply.text) s (t ∙ e) ([], refl, refl)

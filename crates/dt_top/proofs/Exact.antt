@@ -27,14 +27,15 @@ use Rattle.dt_check.proofs.Loop.{closed_is, unfinished_is}
 use Rattle.dt_table.specs.Sizes.{read_product, done_product, term_product, most_read_product, most_done_product, most_term_product, IsWithin}
 use Rattle.dt_table.specs.Table.{table}
 use Rattle.dt_top.specs.Answers.{IsRefutedBy, IsRecordedBy}
-use Rattle.dt_top.specs.Headline.{HasModel, AskedFor, IsAnswer, IsDecision, AskedToCheck, IsChecked, IsAgreed, AskedToJudge, AskedToWalk, AskedToPrint}
+use Rattle.dt_top.specs.Headline.{HasModel, AskedFor, IsAnswer, IsDecision, AskedToCheck, IsChecked, IsAgreed, AskedToJudge, AskedToWalk, AskedToPrint, AskedToMake}
 use Rattle.dt_top.specs.Lines.{read_fault_line, too_long_line, breaks_line, closed_line, open_line, item_line}
 use Rattle.dt_top.specs.Models.{ModelAsked, shipped, of_file, shipped_data, IsModelOf, OnModelAndList}
 use Rattle.dt_top.specs.Seen.{Seen, IsQuiet, HasAll}
 use Rattle.dt_modeltext.specs.Print.{printed as text_of_model}
 use Rattle.dt_walktext.specs.Printed.{walks_text}
 use Rattle.dt_top.specs.Table.{Outside, Ends, JobEnds, in_call, in_files, Row, Files, Expected, IsSearched, IsFixed, IsMemoryOrWriteFault, Comes, ComesAmong, Writes}
-use Rattle.dt_top.specs.commands.Jobs.{Job, solve, check, replay, walk as walk_job, model as print_job, job_of, files_of, Doing}
+use Rattle.dt_top.specs.commands.Jobs.{Job, solve, check, replay, walk as walk_job, model as print_job, make as make_job, job_of, files_of, Doing}
+use Rattle.dt_top.specs.commands.Make.{made_text}
 use Rattle.dt_top.specs.Stages.{IsRequests, OnRequests, IsTooLarge, HasProblem}
 use Rattle.dt_top.specs.commands.Replay.{JudgingBytes}
 use Rattle.dt_top.specs.commands.Solve.{Solve, Answering, SolvingList, Solving}
@@ -131,6 +132,7 @@ job_one files (Some (check job)) a b x y fixed p q = ends_one files (Doing (chec
 job_one files (Some (replay job)) a b x y fixed p q = ends_one files (Doing (replay job)) (single_doing files (replay job) tt) a b x y p q
 job_one files (Some (walk_job job)) a b x y fixed p q = ends_one files (Doing (walk_job job)) (single_doing files (walk_job job) tt) a b x y p q
 job_one files (Some (print_job job)) a b x y fixed p q = ends_one files (Doing (print_job job)) (single_doing files (print_job job) tt) a b x y p q
+job_one files (Some (make_job job)) a b x y fixed p q = ends_one files (Doing (make_job job)) (single_doing files (make_job job) tt) a b x y p q
 
 -- ---- what a call comes to is expected
 
@@ -453,16 +455,26 @@ only_answer o due want status.RequestsRefused text not h = answer_is due status.
 only_answer o due want status.InputRefused text not h = answer_is due status.InputRefused want text h.0 h.1
 only_answer o due want status.TooLarge text not h = answer_is due status.TooLarge want text h.0 h.1
 
-pub prints_exactly : (s : Seen) (words : List (List ℕ)) (m : Shipped) → AskedToPrint words m → (came : Status) (old new : Option (List ℕ)) (sent sent_after : Option (List (List ℕ)))
-    → (came ≢ status.WriteFault → Writes (Row s words came) old new sent sent_after) → Comes status.Good (text_of_model (shipped_data m)) came old new
-prints_exactly s words m asked came old new sent sent_after writes =
+-- where a row has one text alone, that text comes
+answer_comes : (s : Seen) (words : List (List ℕ)) (want : List ℕ) → ((came : Status) (text : List ℕ) → Row s words came text → Ends (in_call s []) (Answered status.Good want) came text)
+    → (came : Status) (old new : Option (List ℕ)) (sent sent_after : Option (List (List ℕ)))
+    → (came ≢ status.WriteFault → Writes (Row s words came) old new sent sent_after) → Comes status.Good want came old new
+answer_comes s words want alone came old new sent sent_after writes =
     elim (mishap_or came) [
       | inl e ↦ inr e
       | inr not ↦
           let w = writes not.1 in
-          let e = only_answer (in_call s []) status.Good (text_of_model (shipped_data m)) came w.0 not.0 (subst (λ j. JobEnds (in_call s) j came w.0) asked w.1) in
+          let e = only_answer (in_call s []) status.Good want came w.0 not.0 (alone came w.0 w.1) in
           inl (e.0, w.2 ∙ ap (after old) e.1)
     ]
+
+pub prints_exactly : (s : Seen) (words : List (List ℕ)) (m : Shipped) → AskedToPrint words m → (came : Status) (old new : Option (List ℕ)) (sent sent_after : Option (List (List ℕ)))
+    → (came ≢ status.WriteFault → Writes (Row s words came) old new sent sent_after) → Comes status.Good (text_of_model (shipped_data m)) came old new
+prints_exactly s words m asked = answer_comes s words (text_of_model (shipped_data m)) (λ came text h. subst (λ j. JobEnds (in_call s) j came text) asked h)
+
+pub makes_exactly : (s : Seen) (words : List (List ℕ)) (n : ℕ) → AskedToMake words n → (came : Status) (old new : Option (List ℕ)) (sent sent_after : Option (List (List ℕ)))
+    → (came ≢ status.WriteFault → Writes (Row s words came) old new sent sent_after) → Comes status.Good (made_text n) came old new
+makes_exactly s words n asked = answer_comes s words (made_text n) (λ came text h. subst (λ j. JobEnds (in_call s) j came text) asked h)
 
 -- ---- what else a row says
 
@@ -479,6 +491,11 @@ row_words s (Some job) came text e h = absurd (cc e)
 pub row_words_only : (s : Seen) (job : Option Job) (came : Status) (text : List ℕ) → came ≡ status.Words → JobEnds (in_call s) job came text → job ≡ None
 row_words_only s None came text e h = refl
 row_words_only s (Some job) came text e h = absurd (subst (λ c. Ends (in_call s (files_of job)) (Doing job) c text) e h)
+
+-- a row has no text of a failed write
+pub row_unwritten : (s : Seen) (job : Option Job) (came : Status) (text : List ℕ) → came ≡ status.WriteFault → JobEnds (in_call s) job came text → ⊥
+row_unwritten s None came text e h = let k : status.WriteFault ≡ status.Words = sym e ∙ h.0 in cc
+row_unwritten s (Some job) came text e h = subst (λ c. Ends (in_call s (files_of job)) (Doing job) c text) e h
 
 quiet_ends : (s : Seen) (names : List (List ℕ)) (course : List FileRead → Outcome → Type 0) (came : Status) (text : List ℕ) → came ≢ status.ReadFault → Ends (in_call s names) course came text → IsQuiet s
 quiet_ends s names course status.ReadFault text not h = absurd (not refl)

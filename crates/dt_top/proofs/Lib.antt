@@ -2,6 +2,7 @@ pub mod Appended
 pub mod Cut
 pub mod Ended
 pub mod Commanded
+pub mod Asking
 pub mod Alike
 pub mod Single
 pub mod Exact

@@ -31,11 +31,12 @@ use Rattle.dt_top.specs.Lines.{bad_line, tree_line, breaks_line, closed_line, op
 use Rattle.dt_top.specs.Stages.{IsBadImage, OnModelImage, IsMatching, IsRefusedImage, OnImage, IsRefusedLog, OnLog}
 use Rattle.dt_top.specs.Models.{ModelAsked, shipped_data, OnModelAndList}
 use Rattle.dt_top.specs.Table.{Files, IsSearched}
-use Rattle.dt_top.specs.commands.Jobs.{Job, solve, check, replay, walk, model, Doing}
+use Rattle.dt_top.specs.commands.Jobs.{Job, solve, check, replay, walk, model, make, Doing}
 use Rattle.dt_top.specs.commands.Solve.{Solve, Answering, SolvingList, Solving}
 use Rattle.dt_top.specs.commands.Check.{JudgingLog, CheckingBytes, CheckingList}
 use Rattle.dt_top.specs.commands.Replay.{Judging, JudgingBytes}
 use Rattle.dt_top.specs.commands.Walk.{WalkingBytes}
+use Rattle.dt_top.specs.commands.Make.{made_text}
 use Rattle.dt_top.specs.declared.file.File.{File}
 use Rattle.dt_top.specs.declared.file.File.TheVariants as file
 use Rattle.dt_top.specs.declared.status.Status.{Status}
@@ -247,3 +248,4 @@ single_doing files (walk job) plain =
     single_file files file.Image job.image (WalkingBytes (shipped_data job.model))
     (λ bytes. single_model_image files (shipped_data job.model) bytes (λ i. Answered status.Good (walks_text (shipped_data job.model) i)) (λ i. single_answered files status.Good (walks_text (shipped_data job.model) i)))
 single_doing files (model job) plain = single_answered files status.Good (printed (shipped_data job.model))
+single_doing files (make job) plain = single_answered files status.Good (made_text job.n)

@@ -18,7 +18,7 @@ use Rattle.dt_top.specs.Lines.{breaks_line, closed_line, open_line, item_line}
 use Rattle.dt_top.specs.Models.{ModelAsked, shipped, of_file, shipped_data}
 use Rattle.dt_top.specs.Stages.{IsRequests, IsMatching}
 use Rattle.dt_top.specs.Table.{Files, Comes, IsMemoryOrWriteFault}
-use Rattle.dt_top.specs.commands.Jobs.{solve, check, replay, walk as walk_job, model as print_job, job_of}
+use Rattle.dt_top.specs.commands.Jobs.{solve, check, replay, walk as walk_job, model as print_job, make as make_job, job_of}
 use Rattle.dt_top.specs.commands.Replay.{Replay}
 use Rattle.dt_top.specs.commands.Solve.{Solve}
 use Rattle.dt_top.specs.commands.Check.{Check, IsRefusedItem}
@@ -108,3 +108,7 @@ pub record AskedToWalk (words : List (List ℕ)) (files : Files) (s : Shipped) (
 -- the words ask for `model` of a shipped model
 abbrev pub AskedToPrint : List (List ℕ) → Shipped → Type 0
 AskedToPrint words s = job_of words ≡ Some (print_job (record { model = s }))
+
+-- the words ask for `make` of a list of so many accesses
+abbrev pub AskedToMake : List (List ℕ) → ℕ → Type 0
+AskedToMake words n = job_of words ≡ Some (make_job (record { n = n }))

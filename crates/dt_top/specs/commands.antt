@@ -4,4 +4,5 @@ pub mod Check
 pub mod Replay
 pub mod Walk
 pub mod Model
+pub mod Make
 pub mod Jobs

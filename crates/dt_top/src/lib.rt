@@ -1,8 +1,8 @@
 //! All that the program does, over any shelf and sink: it reads the files that its words name, and
 //! answers with one text and one status. `solve` looks for an image that meets a list, `check` checks
 //! a log against the problem of a list; `replay` judges the image in a file; `walk` prints the walks
-//! of an image, and `model` a shipped model. A command is a module of `commands`, with its definition
-//! in `specs/commands`: its words, its files in order, and how it goes.
+//! of an image, `model` a shipped model, and `make` a generated list. A command is a module of
+//! `commands`, with its definition in `specs/commands`: its words, its files in order, and how it goes.
 //!
 //! Proved: what words and the bytes of files come to is one relation (`specs/commands`), and `run`
 //! gives a status and a text only where that relation gives them for the words and the bytes that its
@@ -39,8 +39,8 @@ mod status;
 mod words;
 
 pub use commands::{
-    CheckJob, Job, ModelJob, ReplayJob, SolveJob, WalkJob, image_reply, log_reply, print_reply,
-    solve_reply, walk_reply,
+    CheckJob, Job, MakeJob, ModelJob, ReplayJob, SolveJob, WalkJob, image_reply, log_reply,
+    make_reply, print_reply, solve_reply, walk_reply,
 };
 pub use file::File;
 pub use in_memory::run_in_memory;

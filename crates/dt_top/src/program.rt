@@ -7,7 +7,7 @@ ghost use Rattle.dt_request.specs.Choices.{choice_bits};
 ghost use Rattle.dt_request.specs.declared.list.Requests.{Requests};
 ghost use Rattle.dt_log.specs.Read.{LogData, reading as log_in};
 ghost use Rattle.dt_image.specs.declared.image.Image.{Image};
-ghost use Rattle.dt_top.specs.Headline.{AskedFor, IsAnswer, IsDecision, AskedToCheck, IsChecked, IsAgreed, AskedToJudge, IsJudgement, AskedToWalk, AskedToPrint};
+ghost use Rattle.dt_top.specs.Headline.{AskedFor, IsAnswer, IsDecision, AskedToCheck, IsChecked, IsAgreed, AskedToJudge, IsJudgement, AskedToWalk, AskedToPrint, AskedToMake};
 ghost use Rattle.dt_top.specs.Models.{shipped_data};
 ghost use Rattle.dt_top.specs.declared.models.Shipped.{Shipped};
 ghost use Rattle.dt_modeltext.specs.Print.{printed};
@@ -16,6 +16,7 @@ ghost use Rattle.dt_top.specs.Replies.{bytes_of};
 ghost use Rattle.dt_top.specs.Seen.{seen, StaysShelf};
 ghost use Rattle.dt_top.specs.Table.{Row, Files, Expected, IsFixed, Comes, ComesAmong, Writes, WritesPart};
 ghost use Rattle.dt_top.specs.commands.Jobs.{job_of};
+ghost use Rattle.dt_top.specs.commands.Make.{made_text};
 ghost use Rattle.dt_top.specs.declared.status.Status.{Status as Came};
 
 use crate::commands::{Job, perform};
@@ -25,6 +26,7 @@ use crate::status::Status;
 use dt_edge::{Shelf, Sink};
 use std::alloc::Global;
 
+#[tactic(auto, using(crate::proofs::Asking::can_be_asked))]
 // What the words ask for, done; words of no form are refused without memory.
 fn reply<S: Shelf>(alloc: Global, words: &[String], shelf: &mut S) -> Reply
     ensures shelf { StaysShelf S.told S.faults S.taken S.steady shelf.old shelf.new }
@@ -128,6 +130,11 @@ pub fn run<S: Shelf, K: Sink>(
     // A shipped model is printed whatever the shelf has.
     ensures prints { (model : Shipped) → AskedToPrint (map string_bytes words.now) model
         → Comes Status.Good (printed (shipped_data model)) result
+        (K.written sink.old) (K.written sink.new) }
+
+    // A generated list is printed whatever the shelf has.
+    ensures makes { (n : ℕ) → AskedToMake (map string_bytes words.now) n
+        → Comes Status.Good (made_text n) result
         (K.written sink.old) (K.written sink.new) }
 
     // Words of no form are always told, without memory.

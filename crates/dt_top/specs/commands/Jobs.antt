@@ -1,5 +1,5 @@
 -- The command that words ask for.
-use Rattle.std.specs.Prelude.{ℕ, List, [], ◌∷◌, Option, None, if◌then◌else◌, codes}
+use Rattle.std.specs.Prelude.{ℕ, ◌≡◌, true, List, [], ◌∷◌, Option, None, if◌then◌else◌, codes}
 use Rattle.std.specs.Option.{option_map}
 use Rattle.std.specs.Str.{bytes_eq}
 use Rattle.dt_top.specs.Course.{FileRead, Outcome}
@@ -8,6 +8,8 @@ use Rattle.dt_top.specs.commands.Check.{Check, check_of, check_asked, check_file
 use Rattle.dt_top.specs.commands.Replay.{Replay, replay_of, replay_asked, replay_files, Replaying}
 use Rattle.dt_top.specs.commands.Walk.{Walk, walk_of, walk_asked, walk_files, Walking}
 use Rattle.dt_top.specs.commands.Model.{Model, print_of, print_asked, Printing}
+use Rattle.dt_top.specs.commands.Make.{Make, make_of, make_asked, Making}
+use Rattle.dt_make.specs.Made.{can_be_made}
 use Rattle.dt_top.specs.declared.commands.Job.{Job as Found}
 use Rattle.dt_top.specs.declared.commands.Job.TheVariants as found
 
@@ -17,6 +19,7 @@ pub data Job : Type 0 where
   replay : (job : Replay) → Job
   walk : (job : Walk) → Job
   model : (job : Model) → Job
+  make : (job : Make) → Job
 
 -- the job that the words ask for, where they have the form of one
 abbrev pub job_of : List (List ℕ) → Option Job
@@ -26,7 +29,8 @@ job_of (command ∷ words) =
     else (if bytes_eq command (codes "check") then option_map (λ job. check job) (check_of words)
     else (if bytes_eq command (codes "replay") then option_map (λ job. replay job) (replay_of words)
     else (if bytes_eq command (codes "walk") then option_map (λ job. walk job) (walk_of words)
-    else (if bytes_eq command (codes "model") then option_map (λ job. model job) (print_of words) else None))))
+    else (if bytes_eq command (codes "model") then option_map (λ job. model job) (print_of words)
+    else (if bytes_eq command (codes "make") then option_map (λ job. make job) (make_of words) else None)))))
 
 -- what the code asks for
 abbrev pub asked : Found → Job
@@ -35,6 +39,12 @@ asked (found.Check job) = check (check_asked job)
 asked (found.Replay job) = replay (replay_asked job)
 asked (found.Walk job) = walk (walk_asked job)
 asked (found.Model job) = model (print_asked job)
+asked (found.Make job) = make (make_asked job)
+
+-- words can ask for the job: a list that is to be generated can be
+abbrev pub CanBeAsked : Job → Type 0
+CanBeAsked (make job) = can_be_made job.n ≡ true
+CanBeAsked _ = Unit {0}
 
 -- the files that a job reads, in the order of the words
 abbrev pub files_of : Job → List (List ℕ)
@@ -43,6 +53,7 @@ files_of (check job) = check_files job
 files_of (replay job) = replay_files job
 files_of (walk job) = walk_files job
 files_of (model job) = []
+files_of (make job) = []
 
 -- how a job goes
 abbrev pub Doing : Job → List FileRead → Outcome → Type 0
@@ -51,3 +62,4 @@ Doing (check job) = Checking job
 Doing (replay job) = Replaying job
 Doing (walk job) = Walking job
 Doing (model job) = Printing job
+Doing (make job) = Making job

@@ -5,9 +5,10 @@ ghost use Rattle.std.specs.String.{string_bytes};
 ghost use Rattle.dt_top.specs.Replies.{bytes_of};
 ghost use Rattle.dt_top.specs.Seen.{seen, StaysShelf};
 ghost use Rattle.dt_top.specs.Table.{in_call, Ends};
-ghost use Rattle.dt_top.specs.commands.Jobs.{job_of, asked, files_of, Doing};
+ghost use Rattle.dt_top.specs.commands.Jobs.{job_of, asked, files_of, CanBeAsked, Doing};
 
 mod check;
+mod make;
 mod model;
 mod replay;
 mod solve;
@@ -16,6 +17,7 @@ mod walk;
 use crate::reply::Reply;
 pub use check::{CheckJob, log_reply};
 use dt_edge::Shelf;
+pub use make::{MakeJob, make_reply};
 pub use model::{ModelJob, print_reply};
 pub use replay::{ReplayJob, image_reply};
 pub use solve::{SolveJob, solve_reply};
@@ -35,6 +37,8 @@ pub enum Job<'a> {
     Walk(WalkJob<'a>),
     /// `model`, which prints one.
     Model(ModelJob),
+    /// `make`, which prints a generated list.
+    Make(MakeJob),
 }
 
 impl<'a> Job<'a> {
@@ -49,6 +53,7 @@ impl<'a> Job<'a> {
                 "replay" => replay::form(words).map(Job::Replay),
                 "walk" => walk::form(words).map(Job::Walk),
                 "model" => model::job(words),
+                "make" => make::job(words),
                 _ => None,
             },
             [] => None,
@@ -58,6 +63,7 @@ impl<'a> Job<'a> {
 
 /// Does a job: reads its files, and makes the reply.
 pub fn perform<S: Shelf>(alloc: Global, shelf: &mut S, job: Job<'_>) -> Reply
+    requires { CanBeAsked (asked job) }
     ensures shelf { StaysShelf S.told S.faults S.taken S.steady shelf.old shelf.new }
     ensures ends { Ends (in_call (seen S.told S.faults S.taken S.asked shelf.old shelf.new)
         (files_of (asked job.entry))) (Doing (asked job.entry)) result.status (bytes_of result.text) }
@@ -68,5 +74,6 @@ pub fn perform<S: Shelf>(alloc: Global, shelf: &mut S, job: Job<'_>) -> Reply
         Job::Replay(job) => replay::perform(alloc, shelf, job),
         Job::Walk(job) => walk::perform(alloc, shelf, job),
         Job::Model(job) => print_reply(alloc, job.model),
+        Job::Make(job) => make_reply(alloc, job.n),
     }
 }

@@ -4,7 +4,7 @@ use Rattle.dt_top.specs.Replies.{bytes_of}
 use Rattle.dt_top.specs.Seen.{seen}
 use Rattle.dt_top.specs.commands.Jobs.{job_of}
 use Rattle.dt_top.specs.declared.status.Status.TheVariants as status
-use Rattle.dt_top.proofs.Exact.{comes_exactly, comes_among, answers_well, decides, checked_well, agrees_well, judge_fixed, walk_fixed, expected_yes, expected_unmet, expected_walks, prints_exactly, row_quiet, row_memory}
+use Rattle.dt_top.proofs.Exact.{comes_exactly, comes_among, answers_well, decides, checked_well, agrees_well, judge_fixed, walk_fixed, expected_yes, expected_unmet, expected_walks, prints_exactly, makes_exactly, row_quiet, row_memory, row_unwritten, row_words_only}
 use Rattle.dt_top.proofs.program.run.Goals as goal
 
 pub returns-clause-reads : goal.returns-clause-reads
@@ -98,8 +98,29 @@ returns-clause-prints g c = λ m asked.
     c.reply-reply.result.status (g.K.Sink.written c.args.sink.now) (g.K.Sink.written c.write_pieces.new.sink) (g.K.Sink.pieces c.args.sink.now) (g.K.Sink.pieces c.write_pieces.new.sink)
     (λ n. (bytes_of c.reply-reply.result.text, c.reply-reply.ensures.row, search rules, search rules))
 
+pub returns-clause-makes : goal.returns-clause-makes
+returns-clause-makes g c = λ n asked.
+    makes_exactly (seen g.S.Shelf.told g.S.Shelf.faults g.S.Shelf.taken g.S.Shelf.asked c.args.shelf.now c.reply-reply.new.shelf) (map string_bytes c.args.words.now) n asked
+    c.reply-reply.result.status (g.K.Sink.written c.args.sink.now) (g.K.Sink.written c.write_pieces.new.sink) (g.K.Sink.pieces c.args.sink.now) (g.K.Sink.pieces c.write_pieces.new.sink)
+    (λ n. (bytes_of c.reply-reply.result.text, c.reply-reply.ensures.row, search rules, search rules))
+
 pub returns-clause-memory : goal.returns-clause-memory
 returns-clause-memory g c = λ e.
     c.write_pieces.ensures.nothing
     (c.as_bytes.ensures ∙ row_memory (seen g.S.Shelf.told g.S.Shelf.faults g.S.Shelf.taken g.S.Shelf.asked c.args.shelf.now c.reply-reply.new.shelf) (job_of (map string_bytes c.args.words.now))
     c.reply-reply.result.status (bytes_of c.reply-reply.result.text) e c.reply-reply.ensures.row)
+
+pub returns-clause-part : goal.returns-clause-part
+returns-clause-part g c = λ e. absurd (row_unwritten
+    (seen g.S.Shelf.told g.S.Shelf.faults g.S.Shelf.taken g.S.Shelf.asked c.args.shelf.now c.reply-reply.new.shelf) (job_of (map string_bytes c.args.words.now))
+    c.reply-reply.result.status (bytes_of c.reply-reply.result.text) e c.reply-reply.ensures.row)
+
+pub returns-clause-write_fault : goal.returns-clause-write_fault
+returns-clause-write_fault g c = λ e. absurd (row_unwritten
+    (seen g.S.Shelf.told g.S.Shelf.faults g.S.Shelf.taken g.S.Shelf.asked c.args.shelf.now c.reply-reply.new.shelf) (job_of (map string_bytes c.args.words.now))
+    c.reply-reply.result.status (bytes_of c.reply-reply.result.text) e c.reply-reply.ensures.row)
+
+pub returns-clause-words_only : goal.returns-clause-words_only
+returns-clause-words_only g c = λ e. row_words_only
+    (seen g.S.Shelf.told g.S.Shelf.faults g.S.Shelf.taken g.S.Shelf.asked c.args.shelf.now c.reply-reply.new.shelf) (job_of (map string_bytes c.args.words.now))
+    c.reply-reply.result.status (bytes_of c.reply-reply.result.text) e c.reply-reply.ensures.row
