@@ -1,7 +1,8 @@
 //! Measures what a problem of many terms and its cells cost. With an argument it builds a problem
-//! of 4,000,000 terms, its root cells over pairs of known bits and a range, and a copy of them,
-//! takes every step forward and evaluates the problem once, and prints a line for each on standard
-//! error: how many terms there were and how many milliseconds it took. Without one it does the same
+//! of 4,000,000 terms, its root cells over pairs of known bits and a range, and who uses each term,
+//! takes steps forward with a trail until it has a tenth as many pairs as there are terms, then every
+//! step forward, and evaluates the problem once, and prints a line for each on standard error: how
+//! many there were and how many milliseconds it took. Without one it does the same
 //! for a small problem and prints no figure. With two, a file and a number, it reads a trace
 //! (`src/trace.rt`), does its moves that many times, each time on root cells, and prints how many
 //! changed a cell in which way and a digest of the last cells; `tests/steps.py` compares the time
@@ -22,9 +23,9 @@ mod work;
 use crate::moves::{Counts, Move, digest, replay};
 use crate::stop::Stop;
 use crate::trace::{moves_of, problem_of};
-use crate::work::{built, evaluated, swept};
+use crate::work::{built, evaluated, kept, swept};
 use dt_bits::Width;
-use dt_box::Cells;
+use dt_box::{Cells, Trail, Watches};
 use dt_pair::Pair;
 use dt_terms::{Problem, Term};
 use std::time::Instant;
@@ -60,8 +61,18 @@ fn measure(rt: &HostRuntime, shown: bool, count: u32) -> Result<(), Stop> {
     let mut cells: Cells<Pair> = Cells::root(rt.alloc(), &problem)?;
     tell(rt, shown, "root cells", count, &start)?;
     let start = Instant::now(rt)?;
-    let copy = cells.copy(rt.alloc())?;
-    tell(rt, shown, "copied cells", copy.len() as u32, &start)?;
+    let _watches = Watches::new(rt.alloc(), &problem)?;
+    tell(rt, shown, "watches", count, &start)?;
+    let start = Instant::now(rt)?;
+    let mut trail = Trail::new(rt.alloc())?;
+    let pairs = kept(&problem, &mut cells, &mut trail, u64::from(count / 10))?;
+    tell(
+        rt,
+        shown,
+        "kept pairs",
+        pairs.min(u64::from(u32::MAX)) as u32,
+        &start,
+    )?;
     let start = Instant::now(rt)?;
     let known = swept(&problem, &mut cells);
     tell(rt, shown, "stepped forward, known", known, &start)?;

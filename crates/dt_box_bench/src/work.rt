@@ -3,7 +3,7 @@ ghost use Rattle.dt_box.specs.Cells.{AreCells};
 
 use crate::stop::Stop;
 use dt_bits::{Bv, Op, Width};
-use dt_box::{Cells, Changed, Step};
+use dt_box::{Cells, Changed, Step, Trail};
 use dt_pair::Pair;
 use dt_terms::Problem;
 use std::alloc::Global;
@@ -45,6 +45,25 @@ pub fn swept(problem: &Problem, cells: &mut Cells<Pair>) -> u32
         }
     }
     known
+}
+
+/// Takes steps forward until the trail has so many pairs, and says how many it has.
+pub fn kept(
+    problem: &Problem,
+    cells: &mut Cells<Pair>,
+    trail: &mut Trail<Pair>,
+    most: u64,
+) -> Result<u64, Stop>
+    requires { AreCells pair_ops problem.now.terms cells.old }
+    ensures { AreCells pair_ops problem.now.terms cells.new }
+{
+    for term in 0..problem.terms.len() as u32 {
+        let step = Step::Forward { term };
+        if trail.len() < most && step.is_of(problem) {
+            cells.apply_kept(problem, step, trail)?;
+        }
+    }
+    Ok(trail.len())
 }
 
 /// Whether 0 for each choice solves the problem.
