@@ -504,6 +504,16 @@ for n in 2 4 16; do
     begins "a generated list of $n accesses, solved" 0 'image 1' solve @sv39 made_list 10000 1
     meets @sv39 made_list
 done
+begins 'a search of one access' 0 'load 1' load 1
+same 'how it ended' 'load 1 accesses 1 answer image' "$(head -n 3 answer | tr '\n' ' ' | sed 's/ $//')"
+same 'as many words as one walk reads' 1 "$(tail -n +4 answer | grep -c -x 'words [23]')"
+"$program" make 4 >made_list
+begins 'a generated list of four accesses, solved' 0 'image 1' solve @sv39 made_list 10000 4
+row 'a search of four accesses' 0 "load 4\naccesses 4\nanswer image\nwords $(grep -c '^word ' answer)\n" load 4
+row 'a search of no access' 3 'refused words\n' load 0
+row 'a search of 65 accesses' 3 'refused words\n' load 65
+row 'a search without a number' 3 'refused words\n' load
+row 'a search with a further word' 3 'refused words\n' load 1 1
 row 'a walk of an absent image' 7 'read fault image\n' walk @sv39 none
 row 'a walk of a list' 6 'refused image line 1 form\n' walk @sv39 sv39_list
 row 'a walk of an image of another model' 6 'refused image line 3 shape\n' walk @sv39 image

@@ -11,7 +11,8 @@ use Rattle.dt_top.specs.commands.Replay.{replay_of}
 use Rattle.dt_top.specs.commands.Walk.{walk_of}
 use Rattle.dt_top.specs.commands.Model.{print_of}
 use Rattle.dt_top.specs.commands.Make.{make_with, make_of}
-use Rattle.dt_top.specs.commands.Jobs.{Job, solve, check, replay, walk, model, make, job_of, CanBeAsked}
+use Rattle.dt_top.specs.commands.Load.{load_with, load_of}
+use Rattle.dt_top.specs.commands.Jobs.{Job, solve, check, replay, walk, model, make, load, job_of, CanBeAsked}
 
 -- what holds of the job, where there is one
 abbrev Can : Option Job → Type 0
@@ -39,6 +40,19 @@ can_make [] = tt
 can_make (count ∷ []) = can_number (word_number count)
 can_make (count ∷ next ∷ words) = tt
 
+can_load_with : (n : ℕ) (b : Bool) → can_be_made n ≡ b → Can (option_map (λ job. load job) (if b then Some (record { n = n }) else None))
+can_load_with n true e = e
+can_load_with n false e = tt
+
+can_load_number : (o : Option ℕ) → Can (option_map (λ job. load job) (option_and_then load_with o))
+can_load_number None = tt
+can_load_number (Some n) = can_load_with n (can_be_made n) refl
+
+can_load : (words : List (List ℕ)) → Can (option_map (λ job. load job) (load_of words))
+can_load [] = tt
+can_load (count ∷ []) = can_load_number (word_number count)
+can_load (count ∷ next ∷ words) = tt
+
 can_job : (words : List (List ℕ)) → Can (job_of words)
 can_job [] = tt
 can_job (command ∷ words) =
@@ -47,7 +61,8 @@ can_job (command ∷ words) =
     (can_if (bytes_eq command (codes "replay")) _ _ (can_map _ (λ job. replay job) (replay_of words) (λ job. tt))
     (can_if (bytes_eq command (codes "walk")) _ _ (can_map _ (λ job. walk job) (walk_of words) (λ job. tt))
     (can_if (bytes_eq command (codes "model")) _ _ (can_map _ (λ job. model job) (print_of words) (λ job. tt))
-    (can_if (bytes_eq command (codes "make")) _ _ (can_make words) tt)))))
+    (can_if (bytes_eq command (codes "make")) _ _ (can_make words)
+    (can_if (bytes_eq command (codes "load")) _ _ (can_load words) tt))))))
 
 pub can_be_asked : (words : List (List ℕ)) (job : Job) → Some job ≡ job_of words → CanBeAsked job
 can_be_asked words job e = subst Can (sym e) (can_job words)

@@ -27,15 +27,18 @@ use Rattle.dt_check.proofs.Loop.{closed_is, unfinished_is}
 use Rattle.dt_table.specs.Sizes.{read_product, done_product, term_product, most_read_product, most_done_product, most_term_product, IsWithin}
 use Rattle.dt_table.specs.Table.{table}
 use Rattle.dt_top.specs.Answers.{IsRefutedBy, IsRecordedBy}
-use Rattle.dt_top.specs.Headline.{HasModel, AskedFor, IsAnswer, IsDecision, AskedToCheck, IsChecked, IsAgreed, AskedToJudge, AskedToWalk, AskedToPrint, AskedToMake}
+use Rattle.dt_top.specs.Headline.{HasModel, AskedFor, IsAnswer, IsDecision, AskedToCheck, IsChecked, IsAgreed, AskedToJudge, AskedToWalk, AskedToPrint, AskedToMake, AskedToLoad, IsLoaded}
 use Rattle.dt_top.specs.Lines.{read_fault_line, too_long_line, breaks_line, closed_line, open_line, item_line}
 use Rattle.dt_top.specs.Models.{ModelAsked, shipped, of_file, shipped_data, IsModelOf, OnModelAndList}
 use Rattle.dt_top.specs.Seen.{Seen, IsQuiet, HasAll}
 use Rattle.dt_modeltext.specs.Print.{printed as text_of_model}
 use Rattle.dt_walktext.specs.Printed.{walks_text}
 use Rattle.dt_top.specs.Table.{Outside, Ends, JobEnds, in_call, in_files, Row, Files, Expected, IsSearched, IsFixed, IsMemoryOrWriteFault, Comes, ComesAmong, Writes}
-use Rattle.dt_top.specs.commands.Jobs.{Job, solve, check, replay, walk as walk_job, model as print_job, make as make_job, job_of, files_of, Doing}
+use Rattle.dt_top.specs.commands.Jobs.{Job, solve, check, replay, walk as walk_job, model as print_job, make as make_job, load as load_job, job_of, files_of, Doing}
 use Rattle.dt_top.specs.commands.Make.{made_text}
+use Rattle.dt_top.specs.declared.commands.load.LoadEnd.{LoadEnd}
+use Rattle.dt_make.specs.Made.{made}
+use Rattle.dt_top.specs.commands.Load.{IsLoadEnd, end_status, load_text, Loading}
 use Rattle.dt_top.specs.Stages.{IsRequests, OnRequests, IsTooLarge, HasProblem}
 use Rattle.dt_top.specs.commands.Replay.{JudgingBytes}
 use Rattle.dt_top.specs.commands.Solve.{Solve, Answering, SolvingList, Solving}
@@ -54,7 +57,7 @@ use Rattle.dt_top.proofs.Commanded.{found_on}
 use Rattle.dt_top.proofs.Ended.{ends_along, has_more}
 use Rattle.dt_top.proofs.Alike.{Stops, AreAlike, alike_both, not_within}
 use Rattle.dt_top.proofs.ReadLogs.{read_is}
-use Rattle.dt_top.proofs.Single.{IsSingle, single_doing, verdict_on, IsSearchedOut, agree_solving}
+use Rattle.dt_top.proofs.Single.{IsSingle, single_doing, verdict_on, IsSearchedOut, Agree, agree_solving, agree_loading}
 
 -- ---- what is expected is one status and one text
 
@@ -116,18 +119,20 @@ said_searched : (files : Files) (out : Outcome) (came : Status) (text : List ℕ
 said_searched files (answers due want) came text h s = subst IsSearched h.0 s
 said_searched files (needs kind name) came text h s = absurd s
 
-solve_one : (files : Files) (job : Solve) (a b : Status) (x y : List ℕ) → (IsSearched b → ⊥) → Ends (in_files ⊥ files) (Solving job) a x → Ends (in_files ⊥ files) (Solving job) b y → (a ≡ b) × (x ≡ y)
-solve_one files job a b x y fixed p q =
-    let s = stopped files (Solving job) a x p in
-    let t = stopped files (Solving job) b y q in
-    elim (agree_solving files job s.given t.given s.out t.out s.has t.has s.stops t.stops s.goes t.goes) [
-      | inl e ↦ stopped_one files (Solving job) a b x y s t e
+search_one : (files : Files) (course : List FileRead → Outcome → Type 0) → AreAlike files Agree course course → (a b : Status) (x y : List ℕ) → (IsSearched b → ⊥)
+    → Ends (in_files ⊥ files) course a x → Ends (in_files ⊥ files) course b y → (a ≡ b) × (x ≡ y)
+search_one files course agree a b x y fixed p q =
+    let s = stopped files course a x p in
+    let t = stopped files course b y q in
+    elim (agree s.given t.given s.out t.out s.has t.has s.stops t.stops s.goes t.goes) [
+      | inl e ↦ stopped_one files course a b x y s t e
       | inr both ↦ absurd (fixed (said_searched files t.out b y t.says both.1))
     ]
 
 job_one : (files : Files) (job : Option Job) (a b : Status) (x y : List ℕ) → IsFixed job b → JobEnds (λ names. in_files ⊥ files) job a x → JobEnds (λ names. in_files ⊥ files) job b y → (a ≡ b) × (x ≡ y)
 job_one files None a b x y fixed p q = (p.0 ∙ sym q.0, p.1 ∙ sym q.1)
-job_one files (Some (solve job)) a b x y fixed p q = solve_one files job a b x y fixed p q
+job_one files (Some (solve job)) a b x y fixed p q = search_one files (Solving job) (agree_solving files job) a b x y fixed p q
+job_one files (Some (load_job job)) a b x y fixed p q = search_one files (Loading job) (agree_loading files job) a b x y fixed p q
 job_one files (Some (check job)) a b x y fixed p q = ends_one files (Doing (check job)) (single_doing files (check job) tt) a b x y p q
 job_one files (Some (replay job)) a b x y fixed p q = ends_one files (Doing (replay job)) (single_doing files (replay job) tt) a b x y p q
 job_one files (Some (walk_job job)) a b x y fixed p q = ends_one files (Doing (walk_job job)) (single_doing files (walk_job job) tt) a b x y p q
@@ -475,6 +480,37 @@ prints_exactly s words m asked = answer_comes s words (text_of_model (shipped_da
 pub makes_exactly : (s : Seen) (words : List (List ℕ)) (n : ℕ) → AskedToMake words n → (came : Status) (old new : Option (List ℕ)) (sent sent_after : Option (List (List ℕ)))
     → (came ≢ status.WriteFault → Writes (Row s words came) old new sent sent_after) → Comes status.Good (made_text n) came old new
 makes_exactly s words n asked = answer_comes s words (made_text n) (λ came text h. subst (λ j. JobEnds (in_call s) j came text) asked h)
+
+ended_so : (n : ℕ) (came : Status) (text : List ℕ) (files : List FileRead) → Loading (record { n = n }) files (answers came text)
+    → (end : LoadEnd) × IsLoadEnd sv39_data (made n) end × (came ≡ end_status end) × (text ≡ load_text n end)
+ended_so n came text files h = let e = answer_is (end_status h.0) came (load_text n h.0) text files h.2 in (h.0, h.1, e.0, e.1)
+
+-- how the search of a generated list ended
+loading_ends : (o : Outside) (n : ℕ) (came : Status) (text : List ℕ) → (came ≡ status.Memory → ⊥) → Ends o (Loading (record { n = n })) came text
+    → (end : LoadEnd) × IsLoadEnd sv39_data (made n) end × (came ≡ end_status end) × (text ≡ load_text n end)
+loading_ends o n status.ReadFault text not h = let c = h.3 in absurd (answer_needs (end_status c.0) (load_text n c.0) h.0 h.1 h.2 c.2)
+loading_ends o n status.TooLong text not h = let c = h.3 in absurd (answer_needs (end_status c.0) (load_text n c.0) h.0 h.1 h.2 c.2)
+loading_ends o n status.Memory text not h = absurd (not refl)
+loading_ends o n status.Words text not h = absurd h
+loading_ends o n status.WriteFault text not h = absurd h
+loading_ends o n status.Good text not h = ended_so n status.Good text h.0 h.1
+loading_ends o n status.No text not h = ended_so n status.No text h.0 h.1
+loading_ends o n status.Spent text not h = ended_so n status.Spent text h.0 h.1
+loading_ends o n status.ModelRefused text not h = ended_so n status.ModelRefused text h.0 h.1
+loading_ends o n status.RequestsRefused text not h = ended_so n status.RequestsRefused text h.0 h.1
+loading_ends o n status.InputRefused text not h = ended_so n status.InputRefused text h.0 h.1
+loading_ends o n status.TooLarge text not h = ended_so n status.TooLarge text h.0 h.1
+
+pub loads_well : (s : Seen) (words : List (List ℕ)) (n : ℕ) → AskedToLoad words n → (came : Status) (old new : Option (List ℕ)) (sent sent_after : Option (List (List ℕ)))
+    → (came ≢ status.WriteFault → Writes (Row s words came) old new sent sent_after) → IsLoaded n came old new
+loads_well s words n asked came old new sent sent_after writes =
+    elim (mishap_or came) [
+      | inl e ↦ inr e
+      | inr not ↦
+          let w = writes not.1 in
+          let e = loading_ends (in_call s []) n came w.0 not.0 (subst (λ j. JobEnds (in_call s) j came w.0) asked w.1) in
+          inl (e.0, e.1, e.2, w.2 ∙ ap (after old) e.3)
+    ]
 
 -- ---- what else a row says
 

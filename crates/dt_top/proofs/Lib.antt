@@ -9,3 +9,4 @@ pub mod Exact
 pub mod Room
 pub mod ReadLogs
 pub mod Searched
+pub mod Loaded

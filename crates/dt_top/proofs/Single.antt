@@ -31,12 +31,15 @@ use Rattle.dt_top.specs.Lines.{bad_line, tree_line, breaks_line, closed_line, op
 use Rattle.dt_top.specs.Stages.{IsBadImage, OnModelImage, IsMatching, IsRefusedImage, OnImage, IsRefusedLog, OnLog}
 use Rattle.dt_top.specs.Models.{ModelAsked, shipped_data, OnModelAndList}
 use Rattle.dt_top.specs.Table.{Files, IsSearched}
-use Rattle.dt_top.specs.commands.Jobs.{Job, solve, check, replay, walk, model, make, Doing}
+use Rattle.dt_top.specs.commands.Jobs.{Job, solve, check, replay, walk, model, make, load, Doing}
 use Rattle.dt_top.specs.commands.Solve.{Solve, Answering, SolvingList, Solving}
 use Rattle.dt_top.specs.commands.Check.{JudgingLog, CheckingBytes, CheckingList}
 use Rattle.dt_top.specs.commands.Replay.{Judging, JudgingBytes}
 use Rattle.dt_top.specs.commands.Walk.{WalkingBytes}
 use Rattle.dt_top.specs.commands.Make.{made_text}
+use Rattle.dt_top.specs.commands.Load.{Load, end_status, load_text, Loading}
+use Rattle.dt_top.specs.declared.commands.load.LoadEnd.{LoadEnd}
+use Rattle.dt_top.specs.declared.commands.load.LoadEnd.TheVariants as ends
 use Rattle.dt_top.specs.declared.file.File.{File}
 use Rattle.dt_top.specs.declared.file.File.TheVariants as file
 use Rattle.dt_top.specs.declared.status.Status.{Status}
@@ -231,11 +234,25 @@ agree_solving files job =
     (λ d list. alike_problem files Agree agree_is d list (Answering d list job.splits) (Answering d list job.splits)
     (λ given other out end hg ho sg so p q. inr (answering_out d list job.splits given out p, answering_out d list job.splits other end q)))
 
+-- an end of a search is an answer of one
+end_searched : (end : LoadEnd) → IsSearched (end_status end)
+end_searched (ends.Image words) = tt
+end_searched ends.Impossible = tt
+end_searched ends.Budget = tt
+
+loading_out : (job : Load) (files : List FileRead) (out : Outcome) → Loading job files out → IsSearchedOut out
+loading_out job files out h = searched_out (end_status h.0) (load_text job.n h.0) files out (end_searched h.0) h.2
+
+-- ways to stop of `load` agree
+pub agree_loading : (files : Files) (job : Load) → AreAlike files Agree (Loading job) (Loading job)
+agree_loading files job given other out end hg ho sg so p q = inr (loading_out job given out p, loading_out job other end q)
+
 -- ---- the commands
 
 -- a command that doesn't search
 abbrev pub IsPlain : Job → Type 0
 IsPlain (solve job) = ⊥
+IsPlain (load job) = ⊥
 IsPlain _ = Unit {0}
 
 pub single_doing : (files : Files) (job : Job) → IsPlain job → IsSingle files (Doing job)
@@ -249,3 +266,4 @@ single_doing files (walk job) plain =
     (λ bytes. single_model_image files (shipped_data job.model) bytes (λ i. Answered status.Good (walks_text (shipped_data job.model) i)) (λ i. single_answered files status.Good (walks_text (shipped_data job.model) i)))
 single_doing files (model job) plain = single_answered files status.Good (printed (shipped_data job.model))
 single_doing files (make job) plain = single_answered files status.Good (made_text job.n)
+single_doing files (load job) plain = absurd plain

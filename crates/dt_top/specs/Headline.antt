@@ -18,10 +18,14 @@ use Rattle.dt_top.specs.Lines.{breaks_line, closed_line, open_line, item_line}
 use Rattle.dt_top.specs.Models.{ModelAsked, shipped, of_file, shipped_data}
 use Rattle.dt_top.specs.Stages.{IsRequests, IsMatching}
 use Rattle.dt_top.specs.Table.{Files, Comes, IsMemoryOrWriteFault}
-use Rattle.dt_top.specs.commands.Jobs.{solve, check, replay, walk as walk_job, model as print_job, make as make_job, job_of}
+use Rattle.dt_top.specs.commands.Jobs.{solve, check, replay, walk as walk_job, model as print_job, make as make_job, load as load_job, job_of}
 use Rattle.dt_top.specs.commands.Replay.{Replay}
 use Rattle.dt_top.specs.commands.Solve.{Solve}
 use Rattle.dt_top.specs.commands.Check.{Check, IsRefusedItem}
+use Rattle.dt_top.specs.commands.Load.{IsLoadEnd, end_status, load_text}
+use Rattle.dt_top.specs.declared.commands.load.LoadEnd.{LoadEnd}
+use Rattle.dt_make.specs.Made.{made}
+use Rattle.dt_sv39.specs.Shipped.{sv39_data}
 use Rattle.dt_top.specs.declared.file.File.{File}
 use Rattle.dt_top.specs.declared.file.File.TheVariants as file
 use Rattle.dt_top.specs.declared.models.Shipped.{Shipped}
@@ -112,3 +116,12 @@ AskedToPrint words s = job_of words ≡ Some (print_job (record { model = s }))
 -- the words ask for `make` of a list of so many accesses
 abbrev pub AskedToMake : List (List ℕ) → ℕ → Type 0
 AskedToMake words n = job_of words ≡ Some (make_job (record { n = n }))
+
+-- the words ask for `load` of a list of so many accesses
+abbrev pub AskedToLoad : List (List ℕ) → ℕ → Type 0
+AskedToLoad words n = job_of words ≡ Some (load_job (record { n = n }))
+
+-- the search of the generated list ended, and its lines were written; unless memory ran out or a write failed
+abbrev pub IsLoaded : ℕ → Status → Option (List ℕ) → Option (List ℕ) → Type 0
+IsLoaded n came old new =
+    ((end : LoadEnd) × IsLoadEnd sv39_data (made n) end × (came ≡ end_status end) × (new ≡ after old (load_text n end))) ⊎ IsMemoryOrWriteFault came

@@ -6,7 +6,7 @@ use Rattle.dt_top.specs.Course.{FileRead, Outcome, answers, needs}
 use Rattle.dt_top.specs.Files.{limit_of}
 use Rattle.dt_top.specs.Lines.{read_fault_line, too_long_line}
 use Rattle.dt_top.specs.Seen.{Seen, IsQuiet, IsUnread, IsTooLong, HasAll, names_of, AsksThese, AsksFirst}
-use Rattle.dt_top.specs.commands.Jobs.{Job, solve, job_of, files_of, Doing}
+use Rattle.dt_top.specs.commands.Jobs.{Job, solve, load, job_of, files_of, Doing}
 use Rattle.dt_top.specs.declared.file.File.{File}
 use Rattle.dt_top.specs.declared.status.Status.{Status}
 use Rattle.dt_top.specs.declared.status.Status.TheVariants as status
@@ -90,6 +90,7 @@ IsSearched _ = ⊥
 -- words and files fix the text of this status: they do so but for the answers of a search
 abbrev pub IsFixed : Option Job → Status → Type 0
 IsFixed (Some (solve job)) due = IsSearched due → ⊥
+IsFixed (Some (load job)) due = IsSearched due → ⊥
 IsFixed _ due = Unit {0}
 
 -- ---- the table of a call over bytes

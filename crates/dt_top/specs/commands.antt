@@ -5,4 +5,5 @@ pub mod Replay
 pub mod Walk
 pub mod Model
 pub mod Make
+pub mod Load
 pub mod Jobs

@@ -7,7 +7,7 @@ ghost use Rattle.dt_request.specs.Choices.{choice_bits};
 ghost use Rattle.dt_request.specs.declared.list.Requests.{Requests};
 ghost use Rattle.dt_log.specs.Read.{LogData, reading as log_in};
 ghost use Rattle.dt_image.specs.declared.image.Image.{Image};
-ghost use Rattle.dt_top.specs.Headline.{AskedFor, IsAnswer, IsDecision, AskedToCheck, IsChecked, IsAgreed, AskedToJudge, IsJudgement, AskedToWalk, AskedToPrint, AskedToMake};
+ghost use Rattle.dt_top.specs.Headline.{AskedFor, IsAnswer, IsDecision, AskedToCheck, IsChecked, IsAgreed, AskedToJudge, IsJudgement, AskedToWalk, AskedToPrint, AskedToMake, AskedToLoad, IsLoaded};
 ghost use Rattle.dt_top.specs.Models.{shipped_data};
 ghost use Rattle.dt_top.specs.declared.models.Shipped.{Shipped};
 ghost use Rattle.dt_modeltext.specs.Print.{printed};
@@ -136,6 +136,12 @@ pub fn run<S: Shelf, K: Sink>(
     ensures makes { (n : ℕ) → AskedToMake (map string_bytes words.now) n
         → Comes Status.Good (made_text n) result
         (K.written sink.old) (K.written sink.new) }
+
+    // The search of a generated list, whatever the shelf has: an image that meets it and has the words
+    // that its accesses read, and no others, with their number; or no image meets it; or there is a
+    // record of exactly 10,000 splits.
+    ensures loads { (n : ℕ) → AskedToLoad (map string_bytes words.now) n
+        → IsLoaded n result (K.written sink.old) (K.written sink.new) }
 
     // Words of no form are always told, without memory.
     ensures words { job_of (map string_bytes words.now) ≡ None

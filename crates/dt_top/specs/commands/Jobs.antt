@@ -9,6 +9,7 @@ use Rattle.dt_top.specs.commands.Replay.{Replay, replay_of, replay_asked, replay
 use Rattle.dt_top.specs.commands.Walk.{Walk, walk_of, walk_asked, walk_files, Walking}
 use Rattle.dt_top.specs.commands.Model.{Model, print_of, print_asked, Printing}
 use Rattle.dt_top.specs.commands.Make.{Make, make_of, make_asked, Making}
+use Rattle.dt_top.specs.commands.Load.{Load, load_of, load_asked, Loading}
 use Rattle.dt_make.specs.Made.{can_be_made}
 use Rattle.dt_top.specs.declared.commands.Job.{Job as Found}
 use Rattle.dt_top.specs.declared.commands.Job.TheVariants as found
@@ -20,6 +21,7 @@ pub data Job : Type 0 where
   walk : (job : Walk) → Job
   model : (job : Model) → Job
   make : (job : Make) → Job
+  load : (job : Load) → Job
 
 -- the job that the words ask for, where they have the form of one
 abbrev pub job_of : List (List ℕ) → Option Job
@@ -30,7 +32,8 @@ job_of (command ∷ words) =
     else (if bytes_eq command (codes "replay") then option_map (λ job. replay job) (replay_of words)
     else (if bytes_eq command (codes "walk") then option_map (λ job. walk job) (walk_of words)
     else (if bytes_eq command (codes "model") then option_map (λ job. model job) (print_of words)
-    else (if bytes_eq command (codes "make") then option_map (λ job. make job) (make_of words) else None)))))
+    else (if bytes_eq command (codes "make") then option_map (λ job. make job) (make_of words)
+    else (if bytes_eq command (codes "load") then option_map (λ job. load job) (load_of words) else None))))))
 
 -- what the code asks for
 abbrev pub asked : Found → Job
@@ -40,10 +43,12 @@ asked (found.Replay job) = replay (replay_asked job)
 asked (found.Walk job) = walk (walk_asked job)
 asked (found.Model job) = model (print_asked job)
 asked (found.Make job) = make (make_asked job)
+asked (found.Load job) = load (load_asked job)
 
 -- words can ask for the job: a list that is to be generated can be
 abbrev pub CanBeAsked : Job → Type 0
 CanBeAsked (make job) = can_be_made job.n ≡ true
+CanBeAsked (load job) = can_be_made job.n ≡ true
 CanBeAsked _ = Unit {0}
 
 -- the files that a job reads, in the order of the words
@@ -54,6 +59,7 @@ files_of (replay job) = replay_files job
 files_of (walk job) = walk_files job
 files_of (model job) = []
 files_of (make job) = []
+files_of (load job) = []
 
 -- how a job goes
 abbrev pub Doing : Job → List FileRead → Outcome → Type 0
@@ -63,3 +69,4 @@ Doing (replay job) = Replaying job
 Doing (walk job) = Walking job
 Doing (model job) = Printing job
 Doing (make job) = Making job
+Doing (load job) = Loading job

@@ -8,6 +8,7 @@ ghost use Rattle.dt_top.specs.Table.{in_call, Ends};
 ghost use Rattle.dt_top.specs.commands.Jobs.{job_of, asked, files_of, CanBeAsked, Doing};
 
 mod check;
+mod load;
 mod make;
 mod model;
 mod replay;
@@ -17,6 +18,7 @@ mod walk;
 use crate::reply::Reply;
 pub use check::{CheckJob, log_reply};
 use dt_edge::Shelf;
+pub use load::{LoadEnd, LoadJob, load_reply};
 pub use make::{MakeJob, make_reply};
 pub use model::{ModelJob, print_reply};
 pub use replay::{ReplayJob, image_reply};
@@ -39,6 +41,8 @@ pub enum Job<'a> {
     Model(ModelJob),
     /// `make`, which prints a generated list.
     Make(MakeJob),
+    /// `load`, which searches for an image of a generated list.
+    Load(LoadJob),
 }
 
 impl<'a> Job<'a> {
@@ -54,6 +58,7 @@ impl<'a> Job<'a> {
                 "walk" => walk::form(words).map(Job::Walk),
                 "model" => model::job(words),
                 "make" => make::job(words),
+                "load" => load::job(words),
                 _ => None,
             },
             [] => None,
@@ -75,5 +80,6 @@ pub fn perform<S: Shelf>(alloc: Global, shelf: &mut S, job: Job<'_>) -> Reply
         Job::Walk(job) => walk::perform(alloc, shelf, job),
         Job::Model(job) => print_reply(alloc, job.model),
         Job::Make(job) => make_reply(alloc, job.n),
+        Job::Load(job) => load_reply(alloc, job.n),
     }
 }

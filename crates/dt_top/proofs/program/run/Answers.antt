@@ -4,7 +4,7 @@ use Rattle.dt_top.specs.Replies.{bytes_of}
 use Rattle.dt_top.specs.Seen.{seen}
 use Rattle.dt_top.specs.commands.Jobs.{job_of}
 use Rattle.dt_top.specs.declared.status.Status.TheVariants as status
-use Rattle.dt_top.proofs.Exact.{comes_exactly, comes_among, answers_well, decides, checked_well, agrees_well, judge_fixed, walk_fixed, expected_yes, expected_unmet, expected_walks, prints_exactly, makes_exactly, row_quiet, row_memory, row_unwritten, row_words_only}
+use Rattle.dt_top.proofs.Exact.{comes_exactly, comes_among, answers_well, decides, checked_well, agrees_well, judge_fixed, walk_fixed, expected_yes, expected_unmet, expected_walks, prints_exactly, makes_exactly, loads_well, row_quiet, row_memory, row_unwritten, row_words_only}
 use Rattle.dt_top.proofs.program.run.Goals as goal
 
 pub returns-clause-reads : goal.returns-clause-reads
@@ -101,6 +101,12 @@ returns-clause-prints g c = λ m asked.
 pub returns-clause-makes : goal.returns-clause-makes
 returns-clause-makes g c = λ n asked.
     makes_exactly (seen g.S.Shelf.told g.S.Shelf.faults g.S.Shelf.taken g.S.Shelf.asked c.args.shelf.now c.reply-reply.new.shelf) (map string_bytes c.args.words.now) n asked
+    c.reply-reply.result.status (g.K.Sink.written c.args.sink.now) (g.K.Sink.written c.write_pieces.new.sink) (g.K.Sink.pieces c.args.sink.now) (g.K.Sink.pieces c.write_pieces.new.sink)
+    (λ n. (bytes_of c.reply-reply.result.text, c.reply-reply.ensures.row, search rules, search rules))
+
+pub returns-clause-loads : goal.returns-clause-loads
+returns-clause-loads g c = λ n asked.
+    loads_well (seen g.S.Shelf.told g.S.Shelf.faults g.S.Shelf.taken g.S.Shelf.asked c.args.shelf.now c.reply-reply.new.shelf) (map string_bytes c.args.words.now) n asked
     c.reply-reply.result.status (g.K.Sink.written c.args.sink.now) (g.K.Sink.written c.write_pieces.new.sink) (g.K.Sink.pieces c.args.sink.now) (g.K.Sink.pieces c.write_pieces.new.sink)
     (λ n. (bytes_of c.reply-reply.result.text, c.reply-reply.ensures.row, search rules, search rules))
 
