@@ -5,8 +5,8 @@
 //!
 //! Proved: `make_requests` gives exactly the list of `specs/Made`, which is a list of the model, or
 //! `OutOfRange` exactly where a list of so many accesses can't be made; want of memory alone may
-//! come in its place. `can_be_made` tells where one can. The inputs and nodes that the list names by their positions are those of the
-//! names `va`, `kind`, `user`, `r0`, `d12`, `d21` and `d30`.
+//! come in its place. `can_be_made` tells where one can. The inputs and nodes that the list names by
+//! their positions are those of the names `va`, `kind`, `user`, `r0`, `d12`, `d21` and `d30`.
 //!
 //! Not proved: that an image satisfies the list.
 #![tactic(auto)]

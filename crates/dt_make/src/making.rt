@@ -17,7 +17,7 @@ use std::alloc::Global;
 /// The most accesses of a list.
 const MOST: u64 = 64;
 
-/// Whether a list of so many accesses can be made: there is one, and they aren't above 64.
+/// Whether a list of so many accesses can be made: there are 1 to 64.
 pub fn can_be_made(n: u64) -> bool
     ensures { result ≡ can_be_made n }
 {
