@@ -1,6 +1,6 @@
 //! Which call a case asks for, and its answer.
 use crate::stop::Stop;
-use crate::{claims, commands, images, lists, models, sources, walks};
+use crate::{claims, commands, images, lists, models, problems, sources, told, walks};
 use dt_script::{Calls, Case};
 use std::alloc::{AllocError, Global};
 
@@ -15,6 +15,9 @@ fn push_of_model(alloc: Global, call: &str, case: Case, out: &mut String) -> Res
         "walk" => walks::walks(alloc, case, out),
         "rules" => walks::rules(alloc, case, out),
         "judge" => claims::judged(alloc, case, out),
+        "encode" => problems::encoded(alloc, case, out),
+        "terms" => problems::terms(alloc, case, out),
+        "told" => told::told(alloc, case, out),
         _ => Err(Stop::Unknown),
     }
 }
@@ -40,6 +43,7 @@ fn push_stop(out: &mut String, stop: Stop) -> Result<(), AllocError> {
         Stop::Refused { text, line, cause } => {
             writeln!(out, "refused {text} line {line} {cause}")
         }
+        Stop::TooLarge { what, number } => writeln!(out, "too large {what} {number}"),
     }
 }
 

@@ -18,8 +18,13 @@
 //! | `walk` | `model`, `image` | for each access its path, the sides that it took, its reads and its end |
 //! | `rules` | `model`, `image` | for each context and access the values of its rules |
 //! | `judge` | `model`, `list`, `image` | `satisfies`, `breaks K`, or `no match` |
+//! | `encode` | `model`, `list` | the widths of the choices, how many terms the list's problem has, and how many are required |
+//! | `terms` | `model`, `list` | each term of the problem, and which are required |
+//! | `told` | `model`, `list`, `numbers N..` | the printed image that the numbers tell, or `fails`, or `no assignment` |
 //! | `run` | `words W..`, `file NAME`.., `unread N..`, `unwritten N..` | `status S`, and what was written |
 //! | `measure` | the same | `status S`, and how many bytes were written |
+//!
+//! A list that is too large is answered by `too large WHAT NUMBER`.
 //!
 //! Proved: each call is made where its conditions hold, and the program ends. Only tested: all else,
 //! and so that these calls answer something other than that memory ran out where there is enough.
@@ -32,8 +37,10 @@ mod images;
 mod lists;
 mod models;
 mod output;
+mod problems;
 mod sources;
 mod stop;
+mod told;
 mod walks;
 
 use crate::answers::Answers;

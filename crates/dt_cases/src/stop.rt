@@ -1,5 +1,7 @@
-//! Why a call gave nothing: that memory ran out, or the fault of a reader, by its line and its word.
+//! Why a call gave nothing: that memory ran out, the fault of a reader, by its line and its word, or
+//! a list that is too large.
 use dt_bits::NoMemory;
+use dt_encode::{EncodeFault, Quantity3};
 use dt_image::ImageFault;
 use dt_lex::LexFault;
 use dt_modeltext::ModelFault;
@@ -18,6 +20,11 @@ pub enum Stop {
         text: &'static str,
         line: u32,
         cause: &'static str,
+    },
+    /// The list is too large: this product is above its limit.
+    TooLarge {
+        what: Quantity3,
+        number: u64,
     },
 }
 
@@ -68,5 +75,14 @@ impl From<RequestFault> for Stop {
 impl From<ImageFault> for Stop {
     fn from(fault: ImageFault) -> Stop {
         refused("image", fault.line(), fault.word())
+    }
+}
+
+impl From<EncodeFault> for Stop {
+    fn from(fault: EncodeFault) -> Stop {
+        match fault {
+            EncodeFault::Memory => Stop::Memory,
+            EncodeFault::TooLarge { what, number } => Stop::TooLarge { what, number },
+        }
     }
 }

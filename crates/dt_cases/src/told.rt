@@ -2,20 +2,16 @@
 ghost use Rattle.dt_model.specs.Accepted.{accepted_data};
 ghost use Rattle.dt_request.specs.Lists.{IsList};
 
+use crate::lists::list;
+use crate::models::model;
+use crate::output::push_bytes;
 use crate::stop::Stop;
-use crate::texts::{list, model};
 use dt_encode::{encode, image_of};
 use dt_image::print_image;
 use dt_model::Accepted;
 use dt_request::Requests;
 use dt_script::{Case, numbers};
-use std::alloc::{AllocError, Global};
-use std::str;
-
-/// Writes bytes that are a text.
-fn push_bytes(out: &mut String, bytes: &[u8]) -> Result<(), AllocError> {
-    out.push_str(str::from_utf8(bytes).unwrap_or("no text"))
-}
+use std::alloc::Global;
 
 /// The image that the numbers tell, where they solve the problem of the list.
 fn push_told(

@@ -1,6 +1,7 @@
 //! Problems of lists.
+use crate::lists::list;
+use crate::models::model;
 use crate::stop::Stop;
-use crate::texts::{list, model};
 use dt_bits::Op;
 use dt_encode::encode;
 use dt_script::Case;
