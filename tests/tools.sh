@@ -331,6 +331,14 @@ END
     cat "$work"/stopped/runs/[123]/row.json | cmp -s - "$work/before"
     count 'what was done is not done again' $?
 
+    for n in 1 2; do "$program" make $n >"$work/make$n"; done
+    ok 'a plan with generated lists' tools/campaign plan "$work/made" @sv39 "$work/make1" "$work/make2" \
+        --seeds 1-2 --splits 10000 --program "$program"
+    ok 'a campaign with generated lists' tools/campaign run "$work/made" --jobs 2
+    [ "$(cut -f 5,7 "$work/made/summary.tsv" | sort | uniq -c | tr -s ' \t' ' ')" = " 1 answer judged
+ 4 image 1 satisfies" ]
+    count 'each generated list has an image' $?
+
     ok 'a plan for Slurm' tools/campaign plan "$work/array" $model $lists --seeds 2 --program "$program"
     for task in 1 2; do
         ok "task $task of the array" env SLURM_ARRAY_TASK_ID=$task sh "$work/array/array.slurm"
