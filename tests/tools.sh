@@ -182,6 +182,7 @@ refused 'line 4: more than 32 operators one within the other' tools/draw "$work/
 edited $model '/^node start/d'
 refused 'line 11: the walk comes here before index has a value' tools/draw "$work/edited" --image $image
 refused 'No such file' tools/draw "$work/absent"
+refused '`./deeptrans model @sv39` prints' tools/draw @sv39
 refused 'it has no access 1' tools/draw $model --image $image --access 1
 refused 'no whole walk of access 2 is listed' tools/draw $stored/operators --walk $stored/walks --access 2
 edited $stored/walks 's/read table/read valid/'

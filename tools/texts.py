@@ -114,6 +114,8 @@ class Image:
 # ---- lines
 
 def read_bytes(source: str) -> bytes:
+    if source.startswith("@"):
+        raise Refused(f"{source}: no file; `./deeptrans model {source}` prints the model's text")
     return sys.stdin.buffer.read() if source == "-" else Path(source).read_bytes()
 
 
@@ -158,10 +160,8 @@ def width_of(op: str, numbers: list[int], widths: list[int]) -> int | None:
     n, low = (numbers + [0, 0])[:2]
     first, last = widths[0], widths[-1]
     fits, width = {
-        "slice": (low <= n < first, n - low + 1),
-        "concat": (first + last <= 128, first + last),
-        "sext": (first <= n <= 128, n),
-        "shl": (n < first, first), "shr": (n < first, first),
+        "slice": (low <= n < first, n - low + 1), "concat": (first + last <= 128, first + last),
+        "sext": (first <= n <= 128, n), "shl": (n < first, first), "shr": (n < first, first),
         "ite": (first == 1 and widths[1:2] == [last], last),
         "eq": (first == last, 1), "ltu": (first == last, 1),
     }.get(op, (first == last, first))
