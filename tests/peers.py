@@ -117,6 +117,17 @@ UNLAWFUL = [("(_ bv3 2)", "(_ bv4 2)"), ("(_ BitVec 64)", "(_ BitVec 63)"), ("bv
             ("=> (and", "=> (bvand"), ("QF_BV", "BV"), ("at.a0.r2 () Bool", "at.a0.r2 () (_ BitVec 1)"),
             ("declare-fun at.a0.sign", "declare-fun at.a0.mode"), ("declare-fun", "define-fun"),
             ("word.a0.r2 ()", "word.a0.r2 (Bool)")]
+TWO_WAYS = """model 1
+word 64
+address 16
+input x 1
+var p 16
+node a if x b c
+node b let p 16:0x100 d
+node c let p 16:0x200 d
+node d done p 12
+end
+"""
 KNOWN = [("t1/result", "sat"), ("t1/on_table", "unsat"), ("claims/list", "sat"), ("claims/never", "unsat"),
          ("sv39/list", "sat"), ("guide/wish", "sat"), ("guide/never", "unsat")]
 
@@ -148,6 +159,26 @@ def examples() -> Iterator[tuple[str, bool]]:
     for broken in sorted((folder / "claims/broken").iterdir()):
         values = Values(script, read, wished, read_image(str(broken), read))
         yield f"{broken.name} breaks nothing", bool(values.broken())
+
+
+def small() -> Iterator[tuple[str, bool]]:
+    """Every operator, and a variable that two nodes assign: values that were worked out by hand."""
+    operators = (TOP / "tests/tools/operators").read_text()
+    image = (TOP / "tests/tools/operators_image").read_text()
+    for model, image, lo, hi, cell, pa in [
+            (operators, image, 0x1000, 0x2000, "range cell table 0x17d0 0x17d0\n", 0x3005),
+            (TWO_WAYS, "image 1\ntables 0x0 0x0\ncontext\naccess 0 0x1\nend\n", 0, 0, "", 0x100),
+            (TWO_WAYS, "image 1\ntables 0x0 0x0\ncontext\naccess 0 0x0\nend\n", 0, 0, "", 0x200)]:
+        for wished in (pa, pa + 1):
+            asked = (f"requests 1\ntables {lo} {hi}\ncontext c0\naccess a0 c0\n"
+                     f"{cell}range pa {wished} {wished}\nend\n")
+            with tempfile.TemporaryDirectory() as folder:
+                names = [f"{folder}/{name}" for name in ("model", "list", "image")]
+                for name, text in zip(names, (model, asked, image)):
+                    Path(name).write_text(text)
+                read, told, script = scripted(*names[:2])
+                broken = Values(script, read, told, read_image(names[2], read)).broken()
+            yield f"{wished:#x} of a small model: {broken}", bool(broken) == (wished != pa)
 
 
 def unlawful() -> Iterator[tuple[str, bool]]:
@@ -214,7 +245,7 @@ def own_images() -> Iterator[tuple[str, bool]]:
 
 
 def selftest() -> int:
-    parts = [examples(), unlawful(), random_lists(150)]
+    parts = [examples(), small(), unlawful(), random_lists(150)]
     if os.access(PROGRAM, os.X_OK):
         parts.append(own_images())
     else:
