@@ -100,6 +100,23 @@ if has dot; then
     count 'an SVG is whole' $?
 fi
 
+# shows PICTURE MODEL IMAGE: each line of each label is in a stored picture.
+shows() {
+    tools/draw "$2" --image "$3" --dot "$work/dot" && python3 - "$1" "$work/dot" <<'END'
+import html, json, re, sys
+picture, dot = (open(name).read() for name in sys.argv[1:])
+shown = [html.unescape(text).replace("\xa0", " ") for text in re.findall(r"<text[^>]*>(.*?)</text>", picture)]
+graph, *others = [json.loads(label) for label in re.findall(r'label=("(?:[^"\\]|\\.)*")', dot)]
+missing = [row for label in others for row in label.split("\n") if row not in shown]
+sys.exit(bool(missing))
+END
+    count "the picture $1" $?
+}
+shows docs/two_level.svg $model $image
+shows docs/sv39.svg examples/sv39/model examples/sv39/image
+sed 's/0x80000001/0x80000000/' $image >"$work/faulty"
+shows docs/two_level_fault.svg $model "$work/faulty"
+
 # ---- export
 
 sed 's/ *#.*//' $image >"$work/image"
