@@ -126,8 +126,8 @@ row 'the tutorial, solved' 0 "image 1\ntables 0x1000 0x3000\ncontext 0x0\naccess
     solve two_level_model two_level_outside 0 1
 
 # The three answers of `solve`, each tested by `replay` or `check`.
-row 'the example of the README' 0 'image 1\ntables 0x1000 0x3000\ncontext 0x1000\naccess 0 0x1000\nword 0x1000 0x1001\nword 0x1004 0x1\nend\n' \
-    solve two_level_model two_level_mapped 100 1
+begins 'the example of the README' 0 'image 1' solve two_level_model two_level_mapped 100 1
+meets two_level_model two_level_mapped
 begins 'a read outside table memory' 0 'image 1' solve t1 outside 0 1
 meets t1 outside
 begins 'a result' 0 'image 1' solve t1 result 10000 1

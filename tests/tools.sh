@@ -52,7 +52,9 @@ refused() {
     cause=$1
     shift
     "$@" >"$work/got" 2>"$work/errors"
-    [ $? -eq 2 ] && [ ! -s "$work/got" ] && [ "$(wc -l <"$work/errors")" -eq 1 ] &&
+    refusal=$?
+    cat "$work/errors" >>"$work/said"
+    [ $refusal -eq 2 ] && [ ! -s "$work/got" ] && [ "$(wc -l <"$work/errors")" -eq 1 ] &&
         grep -qF -- "$cause" "$work/errors"
     count "refused: $cause" $?
 }
@@ -71,7 +73,7 @@ has() {
 
 # ---- each tool is one file of less than 300 lines, and explains itself
 
-for tool in draw export campaign texts.py; do
+for tool in draw export campaign texts.py walks.py; do
     [ "$(wc -l <tools/$tool)" -lt 300 ]
     count "the length of $tool" $?
 done
@@ -98,11 +100,39 @@ if has dot; then
     count 'an SVG is whole' $?
 fi
 
+# shows PICTURE MODEL IMAGE: each line of each label is in a stored picture.
+shows() {
+    tools/draw "$2" --image "$3" --dot "$work/dot" && python3 - "$1" "$work/dot" <<'END'
+import html, json, re, sys
+picture, dot = (open(name).read() for name in sys.argv[1:])
+shown = [html.unescape(text).replace("\xa0", " ") for text in re.findall(r"<text[^>]*>(.*?)</text>", picture)]
+graph, *others = [json.loads(label) for label in re.findall(r'label=("(?:[^"\\]|\\.)*")', dot)]
+missing = [row for label in others for row in label.split("\n") if row not in shown]
+sys.exit(bool(missing))
+END
+    count "the picture $1" $?
+}
+shows docs/two_level.svg $model $image
+shows docs/sv39.svg examples/sv39/model examples/sv39/image
+sed 's/0x80000001/0x80000000/' $image >"$work/faulty"
+shows docs/two_level_fault.svg $model "$work/faulty"
+
 # ---- export
 
 sed 's/ *#.*//' $image >"$work/image"
 prints 'an image as memh' $stored/two_level.memh tools/export memh $model $image
 prints 'memh as an image' "$work/image" tools/export from-memh $model $image $stored/two_level.memh
+prints 'an image with notes' $stored/two_level.notes tools/export notes $model $image
+prints 'an image with notes is the same image' $stored/two_level.memh tools/export memh $model $stored/two_level.notes
+sed 's/^word 0x2004.*/&\nword 0x2008 0x0/; s/0x80000001/0x80000000/' "$work/image" >"$work/faulty"
+printf '%s\n' 'image 1' 'tables 0x1000 0x3000  # the bytes of table memory' 'context 0x1000        # context 0: root' \
+    'access 0 0x401234     # access 0: its context, va; ends with fault 1, at absent' \
+    'word 0x1004 0x2001    # first of access 0' 'word 0x2004 0x80000000  # second of access 0' \
+    'word 0x2008 0x0       # read by no access' end >"$work/rows"
+tr -s ' ' <"$work/rows" >"$work/wanted"
+tools/export notes $model "$work/faulty" | tr -s ' ' >"$work/got"
+cmp -s "$work/got" "$work/wanted"
+count 'notes on a fault and on a word that nobody reads' $?
 ok 'an image as a binary' tools/export binary $model $image "$work/binary"
 [ "$(wc -c <"$work/binary")" -eq 8192 ]
 count 'the size of a binary' $?
@@ -144,7 +174,32 @@ edited $model 's/^model 1/model 2/'
 refused 'line 2: the first line has to be `model 1`' tools/draw "$work/edited"
 printf 'model 1\nword \351\n' >"$work/edited"
 refused 'line 2: the byte 0xe9 outside a comment' tools/draw "$work/edited"
+for edit in 's/^word 32/word x/=line 3: `x` is no number' \
+    's/^word 32/word 33/=line 3: a word has 8, 16, 32 or 64 bits' \
+    's/^reg root/reg 1root/=line 5: `1root` is no name' \
+    's/^input va/inputs va/=line 6: no line `inputs` may stand here' \
+    's/concat 20/cat 20/=line 12: `cat` is no operator' \
+    's/(slice 0 0 table)/(slice 0 0 table va)/=line 13: `va` stands where `slice` has to end' \
+    's/slice 0 0 leaf/slice 32 0 leaf/=line 15: `slice 32 0` doesn.t fit parts of [[]32[]] bits' \
+    's/absent fault/absent faults/=line 17: `faults` is no act' \
+    's/let index/let entry/=line 11: no variable is called `entry`' \
+    's/^reg root.*/reg root 129/=line 5: 129 is out of range: from 0x1 to 0x80' \
+    '/^node/d=the model has no node'; do
+    edited $model "${edit%%=*}"
+    tools/draw "$work/edited" >"$work/got" 2>"$work/errors"
+    [ $? -eq 2 ] && grep -q "${edit#*=}" "$work/errors" && [ ! -s "$work/got" ]
+    count "refused: ${edit#*=}" $?
+    cat "$work/errors" >>"$work/said"
+done
+awk 'BEGIN { printf "model 1\nword 8 #%16380s\n", "" }' >"$work/edited"
+refused 'line 2: more than 16384 bytes' tools/draw "$work/edited"
+awk 'BEGIN { t = "1:0x1"; for (i = 0; i < 33; i++) t = "(not " t ")"
+    print "model 1\nword 8\naddress 8\nlegal context " t }' >"$work/edited"
+refused 'line 4: more than 32 operators one within the other' tools/draw "$work/edited"
+edited $model '/^node start/d'
+refused 'line 11: the walk comes here before index has a value' tools/draw "$work/edited" --image $image
 refused 'No such file' tools/draw "$work/absent"
+refused '`./deeptrans model @sv39` prints' tools/draw @sv39
 refused 'it has no access 1' tools/draw $model --image $image --access 1
 refused 'no whole walk of access 2 is listed' tools/draw $stored/operators --walk $stored/walks --access 2
 edited $stored/walks 's/read table/read valid/'
@@ -156,11 +211,17 @@ for edit in 's/^word 0x2004/word 0x1004/=line 6: 0x1004 is out of range: from 0x
     's/^word 0x1004/word 0x1006/=line 5: 0x1006 isn.t a multiple of 4' \
     's/^access 0/access 1/=line 4: 1 is out of range' \
     's/^context 0x1000/context/=line 3: the line ends too early' \
+    's/^tables 0x1000/tables 0x1001/=line 2: table memory has to rise from a multiple of 4 to another' \
+    's/^tables 0x1000/tables 0x4000/=line 2: table memory has to rise' \
+    's/^context 0x1000/context 0x1000 0x0/=line 3: `0x0` is too much' \
+    's/^word 0x2004 0x80000001/word 0x2004 0x180000001/=line 6: 0x180000001 is out of range' \
+    's/^word 0x2004/word 0x3000/=line 6: 0x3000 is out of range: from 0x1008 to 0x2ffc' \
     '/^tables/d=line 2: a line `tables` has to come first'; do
     edited "$work/image" "${edit%%=*}"
     tools/export memh $model "$work/edited" "$work/out" 2>"$work/errors"
     [ $? -eq 2 ] && grep -q "${edit#*=}" "$work/errors" && [ ! -e "$work/out" ]
     count "refused: ${edit#*=}" $?
+    cat "$work/errors" >>"$work/said"
 done
 printf '@1\n2001 xxxxxxxx\n' >"$work/edited"
 refused "line 2: \`xxxxxxxx\` isn't known" tools/export from-memh $model $image "$work/edited"
@@ -172,11 +233,23 @@ printf 'zyx\n' >"$work/edited"
 refused 'line 1: `zyx` is no word and no address' tools/export from-memh $model $image "$work/edited"
 refused 'bytes, but table memory has 8192' \
     tools/export from-binary $model $image $stored/two_level.memh
+printf 'model 1\nword 64\naddress 64\nnode a fault 1\nend\n' >"$work/whole_model"
+printf 'image 1\ntables 0x0 0x10000000000000000\nend\n' >"$work/edited"
+refused 'table memory has 2^64 bytes' tools/export header "$work/whole_model" "$work/edited"
+refused 'too many for a binary' tools/export binary "$work/whole_model" "$work/edited"
 refused 'is no name in C' tools/export header $model $image --name 2nd
 cp $image "$work/kept"
 tools/export from-binary $model $image $stored/bench.v "$work/kept" 2>/dev/null
 cmp -s "$work/kept" $image
 count 'what failed leaves its target alone' $?
+# Without Graphviz and GNU parallel, and with a dot that fails.
+python=$(python3 -c 'import sys; print(sys.executable)')
+mkdir "$work/bin"
+ln -s "$(command -v sh)" "$work/bin/sh"
+refused "dot isn't installed" env PATH="$work/bin" "$python" tools/draw $model --svg "$work/svg"
+printf '#!/bin/sh\necho no picture >&2\nexit 1\n' >"$work/bin/dot"
+chmod +x "$work/bin/dot"
+refused 'dot: no picture' env PATH="$work/bin" "$python" tools/draw $model --svg "$work/svg"
 mkdir "$work/folder"
 refused 'Is a directory' tools/export memh $model $image "$work/folder"
 [ -z "$(find "$work" -mindepth 1 -name '*.[0-9]*')" ]
@@ -213,8 +286,18 @@ refused 'no campaign was planned there' tools/campaign run "$work/absent"
 refused 'no such program' tools/campaign plan "$work/none" $model $lists --program "$work/absent"
 refused 'absent: no such file' tools/campaign plan "$work/none" $model "$work/absent" --program sh
 refused 'seeds: `x`: `x` is no decimal number below 2^64' tools/campaign plan "$work/none" $model $lists --program sh --seeds 1,x
+refused 'seeds: `3-1` gives none' tools/campaign plan "$work/none" $model $lists --program sh --seeds 3-1
+refused '1000002 runs, more than 1000000' tools/campaign plan "$work/none" $model $lists --program sh --seeds 1-500001
+tabbed=$(printf '%s/a\tb' "$work")
+cp $model "$tabbed"
+refused 'a name with a tab or a line feed' tools/campaign plan "$work/none" "$tabbed" $lists --program sh
 [ ! -e "$work/none" ]
 count 'a refused plan leaves nothing' $?
+ok 'a plan that no program is run for' tools/campaign plan "$work/planned" $model $lists --program sh
+refused 'it exists; `run` goes on with a campaign' tools/campaign plan "$work/planned" $model $lists --program sh
+refused 'runs are numbered from 1 to 2' tools/campaign one "$work/planned" 3
+refused '2 of 2 runs have no result; first 1' tools/campaign sum "$work/planned"
+refused "GNU parallel isn't installed" env PATH="$work/bin" "$python" tools/campaign run "$work/planned"
 if ! [ -x "$program" ]; then
     echo "skipped: the program isn't built"
 elif has parallel; then
@@ -266,12 +349,42 @@ END
     cat "$work"/stopped/runs/[123]/row.json | cmp -s - "$work/before"
     count 'what was done is not done again' $?
 
+    for n in 1 2; do "$program" make $n >"$work/make$n"; done
+    ok 'a plan with generated lists' tools/campaign plan "$work/made" @sv39 "$work/make1" "$work/make2" \
+        --seeds 1-2 --splits 10000 --program "$program"
+    ok 'a campaign with generated lists' tools/campaign run "$work/made" --jobs 2
+    [ "$(cut -f 5,7 "$work/made/summary.tsv" | sort | uniq -c | tr -s ' \t' ' ')" = " 1 answer judged
+ 4 image 1 satisfies" ]
+    count 'each generated list has an image' $?
+
     ok 'a plan for Slurm' tools/campaign plan "$work/array" $model $lists --seeds 2 --program "$program"
     for task in 1 2; do
         ok "task $task of the array" env SLURM_ARRAY_TASK_ID=$task sh "$work/array/array.slurm"
     done
     ok 'the sum of an array' tools/campaign sum "$work/array"
 fi
+
+# ---- each refusal that the tools know was met above
+
+python3 - "$work/said" tools/draw tools/export tools/campaign tools/texts.py tools/walks.py <<'END'
+import ast, re, sys
+said = open(sys.argv[1]).read()
+
+def pattern(text):
+    """What a message begins and ends with, whatever its values are."""
+    parts = text.values if isinstance(text, ast.JoinedStr) else [text]
+    return "".join(re.escape(part.value) if isinstance(part, ast.Constant) else ".*" for part in parts)
+
+def called(node):
+    return getattr(node.func, "id", getattr(node.func, "attr", "")) if isinstance(node, ast.Call) else ""
+
+unmet = [f"{name}: line {node.lineno}" for name in sys.argv[2:] for node in ast.walk(ast.parse(open(name).read()))
+         if called(node) in ("Refused", "refuse") and pattern(node.args[0]) != ".*: line .*: .*"
+         and not re.search(pattern(node.args[0]), said)]
+print("\n".join(unmet), end="\n" if unmet else "")
+sys.exit(bool(unmet))
+END
+count 'each refusal is met by a test' $?
 
 echo "$passed passed, $failed failed"
 [ "$failed" -eq 0 ]

@@ -12,8 +12,7 @@ from dataclasses import dataclass, field
 from pathlib import Path
 from typing import Callable, Collection, Iterator
 
-LONGEST_LINE = 16_384
-DEEPEST = 32
+LONGEST_LINE, DEEPEST = 16_384, 32
 NAME = re.compile(r"[a-z][a-z0-9_]{0,30}")
 NUMBER = re.compile(r"0x[0-9a-fA-F]+|[0-9]+")
 TOKEN = re.compile(r"[()]|[^ \t\r()]+")
@@ -95,6 +94,7 @@ class Model:
     input: list[str] = field(default_factory=list)
     var: list[str] = field(default_factory=list)
     widths: dict[str, int] = field(default_factory=dict)
+    rules: list[tuple[str, Expr]] = field(default_factory=list)  # `legal context` or `legal access`
     nodes: dict[str, Node] = field(default_factory=dict)
 
     @property
@@ -114,6 +114,8 @@ class Image:
 # ---- lines
 
 def read_bytes(source: str) -> bytes:
+    if source.startswith("@"):
+        raise Refused(f"{source}: no file; `./deeptrans model {source}` prints the model's text")
     return sys.stdin.buffer.read() if source == "-" else Path(source).read_bytes()
 
 
@@ -158,10 +160,8 @@ def width_of(op: str, numbers: list[int], widths: list[int]) -> int | None:
     n, low = (numbers + [0, 0])[:2]
     first, last = widths[0], widths[-1]
     fits, width = {
-        "slice": (low <= n < first, n - low + 1),
-        "concat": (first + last <= 128, first + last),
-        "sext": (first <= n <= 128, n),
-        "shl": (n < first, first), "shr": (n < first, first),
+        "slice": (low <= n < first, n - low + 1), "concat": (first + last <= 128, first + last),
+        "sext": (first <= n <= 128, n), "shl": (n < first, first), "shr": (n < first, first),
         "ite": (first == 1 and widths[1:2] == [last], last),
         "eq": (first == last, 1), "ltu": (first == last, 1),
     }.get(op, (first == last, first))
@@ -224,7 +224,7 @@ def read_model(source: str) -> Model:
             node = read_node(line, model)
             model.nodes[node.name] = node
         elif kind.startswith("legal"):
-            read_expr(line, model.widths)
+            model.rules.append((kind, read_expr(line, model.widths)))
         elif kind in ("word", "address"):
             setattr(model, kind, line.number(8, 64))
             if kind == "word" and model.word not in (8, 16, 32, 64):
