@@ -31,6 +31,7 @@
 
 mod cells;
 mod change;
+mod fixed;
 mod laws;
 mod near;
 mod propagation;
