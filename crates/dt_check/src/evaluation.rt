@@ -43,6 +43,7 @@ fn value_among(terms: &[Term], values: &[u128], term: usize) -> u128
 }
 
 // Whether there is a required term at this place, and it isn't 1.
+#[tactic(auto, using(std::proofs::lemmas::List::Folds::list_all_at))]
 fn is_failing(required: &[u32], values: &[u128], place: usize) -> bool
     requires { All (λ t. t < length values.now) required.now }
     ensures { IsTrue result → list_all (λ t. slice_index values.now t == 1) required.now ≡ false }
@@ -54,6 +55,7 @@ fn is_failing(required: &[u32], values: &[u128], place: usize) -> bool
 }
 
 // The place of the first required term that isn't 1.
+#[tactic(auto, using(std::proofs::lemmas::List::Folds::list_all_at, std::proofs::lemmas::List::Folds::list_all_more))]
 fn first_failing(required: &[u32], values: &[u128]) -> Option<usize>
     requires { All (λ t. t < length values.now) required.now }
     ensures { MatchOption result (list_all (λ t. slice_index values.now t == 1) required.now ≡ true) (λ place. list_all (λ t. slice_index values.now t == 1) required.now ≡ false) }

@@ -12,7 +12,7 @@ ghost use Rattle.dt_check.specs.Waiting.{Stacked, CanBegin, AtSplits, IsNext, Is
 ghost use Rattle.dt_check.specs.Trying.{IsTrial};
 ghost use Rattle.dt_propagate.specs.Settling.{IsProgress, IsEnd};
 ghost use Rattle.dt_solve.specs.Roots.{IsRoot};
-ghost use Rattle.dt_solve.specs.Searching.{IsStart, IsAt, IsTurned};
+ghost use Rattle.dt_solve.specs.Searching.{IsStart, IsSearching, IsAt, IsTurned};
 
 use crate::choosing::{ChoiceBit, bit_to_split};
 use crate::guiding::{Guide, Rule};
@@ -182,6 +182,54 @@ fn split_tree<D: Domain>(
     Ok(())
 }
 
+// At settled cells numbers are tried, and where they fail, a bit is split, unless the limit is reached.
+fn try_or_split<D: Deciding, P: Proposer<D>>(
+    problem: &Problem,
+    limit: u64,
+    proposer: &mut P,
+    search: &mut Search<D>,
+    tried: &mut Tried,
+) -> Result<Turned, NoMemory>
+    requires numbers { length tried.old.numbers.items ≡ length (choices_of problem.now.terms) }
+    requires searching { IsSearching D.ops problem.now limit (P.aim proposer.old) search.old.cells search.old.trail search.old.pending.items search.old.draft.lines search.old.splits }
+    requires settled { IsSettled D.ops problem.now.terms search.old.cells }
+    requires trial { IsTrial D.ops problem.now.terms search.old.cells search.old.trail search.old.trial }
+    ensures turned { IfOk result (λ turned. IsTurned D.ops problem.now limit (P.aim proposer.old) search.old turned search.new tried.new.numbers.items) }
+    ensures numbers { OnOk result (length tried.new.numbers.items ≡ length (choices_of problem.now.terms)) }
+    ensures aim { P.aim proposer.new ≡ P.aim proposer.old }
+{
+    let _ = &problem.terms;
+    let solves = tried.try_numbers(
+        problem,
+        &search.cells,
+        &search.trail,
+        &mut search.trial,
+        proposer,
+    )?;
+    if solves {
+        return Ok(Turned::Found);
+    }
+    write_tries(&tried.pairs, &mut search.draft)?;
+    if search.splits == limit {
+        write_rest(&mut search.draft, search.pending.len())?;
+        return Ok(Turned::Spent);
+    }
+    let values = search.trial.values();
+    let hint = search.guide.hint(problem, &search.cells, values)?;
+    let split = bit_to_split(problem, &search.cells, hint);
+    split_tree(
+        problem,
+        &mut search.cells,
+        &mut search.trail,
+        &mut search.pending,
+        &mut search.draft,
+        split,
+    )?;
+    search.splits += 1;
+    search.start = Start::Changed(split.term);
+    Ok(Turned::More)
+}
+
 // A turn: the cells are settled; where one is empty, the tree is closed and the next one begun; else
 // numbers are tried, and where they fail, a bit is split, unless the limit is reached.
 pub(crate) fn turn<D: Deciding, P: Proposer<D>>(
@@ -224,36 +272,6 @@ pub(crate) fn turn<D: Deciding, P: Proposer<D>>(
                 Ok(Turned::More)
             }
         },
-        Settled::Quiet => {
-            let solves = tried.try_numbers(
-                problem,
-                &search.cells,
-                &search.trail,
-                &mut search.trial,
-                proposer,
-            )?;
-            if solves {
-                return Ok(Turned::Found);
-            }
-            write_tries(&tried.pairs, &mut search.draft)?;
-            if search.splits == limit {
-                write_rest(&mut search.draft, search.pending.len())?;
-                return Ok(Turned::Spent);
-            }
-            let values = search.trial.values();
-            let hint = search.guide.hint(problem, &search.cells, values)?;
-            let split = bit_to_split(problem, &search.cells, hint);
-            split_tree(
-                problem,
-                &mut search.cells,
-                &mut search.trail,
-                &mut search.pending,
-                &mut search.draft,
-                split,
-            )?;
-            search.splits += 1;
-            search.start = Start::Changed(split.term);
-            Ok(Turned::More)
-        }
+        Settled::Quiet => try_or_split(problem, limit, proposer, search, tried),
     }
 }
