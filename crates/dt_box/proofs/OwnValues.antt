@@ -1,21 +1,22 @@
 -- A node tells nothing new where all bits near it are known, and its value is its operator's.
-use Rattle.std.proofs.Common.{◌≡◌, ℕ, zero, suc, ◌+◌, ◌-◌, ◌^◌, ◌%◌, ◌<◌, ◌≤◌, Bool, true, false, not, ◌&&◌, ◌||◌, ◌⊎◌, inl, inr, List, length, refl, sym, ap, ◌∙◌, subst, ⊎_elim, arith}
+use Rattle.std.proofs.Common.{◌≡◌, ℕ, zero, suc, ◌+◌, ◌-◌, ◌^◌, ◌%◌, ◌<◌, ◌≤◌, Bool, true, false, not, ◌&&◌, ◌||◌, ◌⊎◌, inl, inr, List, length, get_or, bit_and, refl, sym, ap, ◌∙◌, subst, ⊎_elim, arith}
 use Rattle.std.proofs.lemmas.Bool.{cases_Bool, cases_lt, false≢true, or_from, and_from}
 use Rattle.std.proofs.lemmas.Nat.{and_mask}
 use Rattle.dt_lemmas.proofs.Powers.{one_below}
-use Rattle.dt_bits.specs.Bits.{bit, IsWidth}
-use Rattle.dt_bits.specs.Ops.{arity_of, value_of}
+use Rattle.std.proofs.lemmas.List.{get_or_read}
+use Rattle.dt_bits.specs.Bits.{bit, IsWidth, IsValue, width}
+use Rattle.dt_bits.specs.Ops.{arity_of, fits_at, value_of}
 use Rattle.dt_bits.specs.declared.op.Op.{Op}
 use Rattle.dt_bits.specs.declared.value.Bv.{Bv}
 use Rattle.dt_bits.specs.declared.value.Width.{Width}
-use Rattle.dt_bits.proofs.Operators.{value_used}
+use Rattle.dt_bits.proofs.Operators.{value_used, fits_same}
 use Rattle.dt_bits.proofs.BitLemmas.{bit_above, bit_of_ones}
 use Rattle.dt_bits.proofs.Below.{none_below_from}
 use Rattle.dt_domain.specs.Domain.{DomainOps, DomainLaws, HoldUsed, Holds, AreAlike, bits_of, operand, value_at}
 use Rattle.dt_terms.specs.declared.term.Term.{Term}
 use Rattle.dt_terms.specs.declared.term.Term.TheVariants.{Choice, Node}
-use Rattle.dt_terms.specs.Terms.{term_at, width_of_term, AreTerms}
-use Rattle.dt_terms.proofs.Placed.{IsPlaced, placed}
+use Rattle.dt_terms.specs.Terms.{term_at, width_of_term, bits_at, AreTerms}
+use Rattle.dt_terms.proofs.Placed.{IsPlaced, placed, fits_parts}
 use Rattle.dt_box.specs.declared.step.Step.{Step}
 use Rattle.dt_box.specs.declared.step.Step.TheVariants.{Forward, Backward}
 use Rattle.dt_box.specs.Cells.{cell_at, AreCells}
@@ -73,7 +74,15 @@ module _ (D : Type 0) (ops : DomainOps D) (laws : DomainLaws ops) where
       let i = laws.meet_is d e a in
       or_from _ _ (held_not_empty (ops.meet d e) x i.0 (laws.meet_holds d e x a h g)) (no_more d (ops.meet d e) i.0 i.1 m)
 
+  -- an operand's number is a value
+  pub operand_value : (op : Op) (k : ℕ) (d : D) (v : Bv) → ops.IsDomain d → IsOperandNumber ops op k d v → IsValue v
+  operand_value op k d v i o = (subst (λ (w : Width). IsWidth w.0) o.width (laws.width_is d i), o.fits)
+
   module _ (terms : List Term) (right : AreTerms terms) (cells : List D) (are : AreCells ops terms cells) where
+    -- a cell that was read
+    pub cell_here : (a : ℕ) (d : D) → a < length terms → d ≡ get_or cells a d → d ≡ cell_at ops cells a
+    cell_here a d l e = get_or_read cells a d (omega (arith, are.count)) e (ops.full (width 1))
+
     module _ (t : ℕ) (op : Op) (a b c : ℕ) (w : Width) (within : t < length terms) (is : term_at terms t ≡ Node op a b c w) (x y z : Bv)
         (first : IsOperandNumber ops op 0 (cell_at ops cells a) x) (second : IsOperandNumber ops op 1 (cell_at ops cells b) y) (third : IsOperandNumber ops op 2 (cell_at ops cells c) z) where
       there : IsPlaced terms t op a b c w
@@ -93,6 +102,14 @@ module _ (D : Type 0) (ops : DomainOps D) (laws : DomainLaws ops) where
           (λ u. ap (at x.bits) (ap ops.width (used_cell D ops laws terms right op 0 a cells u) ∙ first.width))
           (λ u. ap (at y.bits) (ap ops.width (used_cell D ops laws terms right op 1 b cells u) ∙ second.width))
           (λ u. ap (at z.bits) (ap ops.width (used_cell D ops laws terms right op 2 c cells u) ∙ third.width))
+
+      -- the operator fits these operands
+      pub operands_fit : fits_at op x.width.0 y.width.0 z.width.0 ≡ true
+      operands_fit =
+          (fits_parts op _ _ _ w
+          (fits_same op x.width.0 y.width.0 z.width.0 (bits_at terms a) (bits_at terms b) (bits_at terms c)
+          (λ _. ap (λ v. v.0) (sym first.width ∙ are.widths a there.a_in)) (λ _. ap (λ v. v.0) (sym second.width ∙ are.widths b there.b_in)) (λ _. ap (λ v. v.0) (sym third.width ∙ are.widths c there.c_in))
+          ∙ there.fits)).0
 
       -- the operand at a place holds its number, and all its bits are known
       at_place : (k : ℕ) → k < arity_of op → Holds ops (cell_at ops cells (operand k a b c)) (operand k x.bits y.bits z.bits) × (ops.known_mask (cell_at ops cells (operand k a b c)) ≡ 2 ^ bits_of ops (cell_at ops cells (operand k a b c)) - 1)
