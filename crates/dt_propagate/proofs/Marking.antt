@@ -1,15 +1,15 @@
 -- Sets of positions: what adding and taking away does, and how the next one is found.
-use Rattle.std.proofs.Common.{◌≡◌, ◌≢◌, ℕ, zero, suc, ◌+◌, ◌-◌, ◌*◌, ◌/◌, ◌%◌, ◌^◌, ◌<◌, ◌≤◌, Bool, true, false, not, ◌&&◌, ◌||◌, eqb, List, [], ◌∷◌, Option, Some, None, length, get_or, set, refl, sym, ap, ◌∙◌, subst, inl, inr, ◌⊎◌, ⊎_elim, arith, get_or-set_same, get_or-set_other}
+use Rattle.std.proofs.Common.{◌≡◌, ◌≢◌, ℕ, zero, suc, ◌+◌, ◌-◌, ◌*◌, ◌/◌, ◌%◌, ◌^◌, ◌<◌, ◌≤◌, Bool, true, false, not, ◌&&◌, ◌||◌, eqb, List, [], ◌∷◌, Option, Some, None, length, replicate, get_or, set, refl, sym, ap, ◌∙◌, subst, inl, inr, ◌⊎◌, ⊎_elim, arith, get_or-set_same, get_or-set_other}
 use Rattle.std.specs.Int.{bit_not, bit_at}
 use Rattle.std.specs.Int.RustNames.{bit_or}
 use Rattle.std.proofs.lemmas.Bool.{cases_eq, cases_lt, eq-eqb, eqb-true, or_right, and_parts, and_from, true≢false, false_from_ne_true}
-use Rattle.std.proofs.lemmas.List.{get_or_past}
+use Rattle.std.proofs.lemmas.List.{get_or_past, length-replicate, get_or-replicate}
 use Rattle.std.proofs.lemmas.Nat.Bits.{bit_at_set_same, bit_at_set_other, bit_at_clear_same, bit_at_clear_other, bit_at-trailing_zeros}
 use Rattle.std.specs.Int.{trailing_zeros}
 use lib.Bits.{bit_and}
 use Rattle.std.proofs.Common.{w64}
 use Rattle.dt_bits.specs.Bits.{bit}
-use Rattle.dt_bits.proofs.BitLemmas.{bit_is, bit_of_shr, bit_of_zero, bit_above, from_at}
+use Rattle.dt_bits.proofs.BitLemmas.{bit_is, bit_of_shr, bit_of_zero, bit_of_ones, bit_above, from_at}
 use Rattle.dt_propagate.specs.Marks.{is_marked, AreCovered, Grows, IsNextMark}
 
 -- where rest is 0, no bit from k on is 1
@@ -183,3 +183,19 @@ covered_zero words tops fewer word c n z h = record {
       (ap not (false_from_ne_true (eqb (i / 64) word) (λ f. true≢false (sym e ∙ ap (λ w. bit w (i % 64)) (ap (λ k. get_or words k 0) (eqb-true (i / 64) word f) ∙ z) ∙ bit_of_zero (i % 64)))))
       (c.each i e);
 }
+
+-- words that are all the same, and above them either none or all
+pub covered_new : (n m word top : ℕ) → n ≤ m * 64 → m ≤ n → (word ≡ 0) ⊎ (top ≡ 2 ^ 64 - 1) → AreCovered (replicate n word) (replicate m top)
+covered_new n m word top l k h = record {
+  count = let a = length-replicate n word in let b = length-replicate m top in omega arith;
+  few = let a = length-replicate n word in let b = length-replicate m top in omega arith;
+  each = λ i e. ⊎_elim (λ (f : word ≡ 0). absurd (true≢false (sym e ∙ none i f (cases_lt (i / 64) n)))) (λ (f : top ≡ 2 ^ 64 - 1). above i e f (cases_lt (i / 64) n)) h;
+}
+  where
+    none : (i : ℕ) → word ≡ 0 → (i / 64 < n) ⊎ (n ≤ i / 64) → is_marked (replicate n word) i ≡ false
+    none i f (inl a) = ap (λ w. bit w (i % 64)) (get_or-replicate n (i / 64) word 0 a ∙ f) ∙ bit_of_zero (i % 64)
+    none i f (inr a) = past_words (replicate n word) i (let b = length-replicate n word in omega arith)
+
+    above : (i : ℕ) → is_marked (replicate n word) i ≡ true → top ≡ 2 ^ 64 - 1 → (i / 64 < n) ⊎ (n ≤ i / 64) → is_marked (replicate m top) (i / 64) ≡ true
+    above i e f (inl a) = ap (λ w. bit w (i / 64 % 64)) (get_or-replicate m (i / 64 / 64) top 0 (omega arith) ∙ f) ∙ bit_of_ones 64 (i / 64 % 64) (omega arith)
+    above i e f (inr a) = absurd (true≢false (sym e ∙ past_words (replicate n word) i (let b = length-replicate n word in omega arith)))

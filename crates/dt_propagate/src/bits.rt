@@ -1,4 +1,4 @@
-ghost use Rattle.std.specs.Prelude.{◌≡◌, ◌==◌, ◌||◌, ◌&&◌, ◌+◌, ◌*◌, ◌/◌, ◌%◌, ◌<◌, ◌≤◌, ◌^◌, ℕ, Bool, true, false, not, length, slice_index, IfOk, IfSome, MatchOption};
+ghost use Rattle.std.specs.Prelude.{◌≡◌, ◌==◌, ◌||◌, ◌&&◌, ◌⊎◌, ◌+◌, ◌-◌, ◌*◌, ◌/◌, ◌%◌, ◌<◌, ◌≤◌, ◌^◌, ℕ, Bool, true, false, not, length, slice_index, IfOk, IfSome, MatchOption};
 ghost use Rattle.dt_bits.specs.Bits.{bit};
 ghost use Rattle.dt_propagate.specs.Marks.{is_marked, AreCovered, HasRoom, IsNextMark, IsNextBelow};
 
@@ -24,6 +24,13 @@ fn next_in(word: u64, k: u32) -> Option<u32>
         return None;
     }
     Some(k + rest.trailing_zeros())
+}
+
+// What stands above words that are all this one: all bits, unless the word is 0.
+fn top_of(word: u64) -> u64
+    ensures { (word ≡ 0) ⊎ (result ≡ 2 ^ 64 - 1) }
+{
+    if word == 0 { 0 } else { u64::MAX }
 }
 
 // Adds a position to a set.
@@ -79,10 +86,9 @@ impl Bits {
         ensures room { IfOk result (λ bits. HasRoom count bits.words.items) }
         ensures words { IfOk result (λ bits. (i : ℕ) → i < count → is_marked bits.words.items i ≡ bit word (i % 64)) }
     {
-        let top = if word == 0 { 0 } else { u64::MAX };
         Ok(Bits {
             words: vec![in alloc; word; count / 64 + 1]?,
-            tops: vec![in alloc; top; count / 4096 + 1]?,
+            tops: vec![in alloc; top_of(word); count / 4096 + 1]?,
         })
     }
 
