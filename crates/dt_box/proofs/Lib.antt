@@ -11,3 +11,4 @@ pub mod Buckets
 pub mod Users
 pub mod Watching
 pub mod Unknown
+mod OwnValues

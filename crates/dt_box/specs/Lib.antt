@@ -9,3 +9,4 @@ pub mod Watching
 pub mod Buckets
 pub mod Users
 pub mod Unknown
+pub mod Fixed

@@ -17,7 +17,8 @@
 //! cell was, exactly where the answer isn't `No`; `undo` gives exactly the cells and the trail of the
 //! time when the trail had that length, and `Trail::term` the term of a pair (`specs/Trails.antt`). `Watches` lists exactly the nodes that
 //! use each term (`specs/Watching.antt`). `is_settled_since` is true exactly at settled cells, and
-//! looks only near what changed.
+//! looks only near what changed; where all bits of a node and its operands are known, the operator is
+//! evaluated once in place of trying the node's steps.
 //!
 //! A cell takes what its domain takes, and a kept change 16 bytes more. Only
 //! `root`, `copy`, `Watches::new` and the kept calls take memory. A step costs one call of
@@ -31,6 +32,7 @@
 
 mod cells;
 mod change;
+mod fixed;
 mod laws;
 mod near;
 mod propagation;

@@ -8,6 +8,7 @@ ghost use Rattle.dt_box.specs.Stillness.{HasNoEmpty, tells, TellsNew, IsStillAt,
 
 use crate::Step;
 use crate::change::has_news;
+use crate::fixed::is_fixed;
 use crate::propagation::{narrowed, target};
 use dt_bits::arity;
 use dt_domain::Domain;
@@ -65,6 +66,9 @@ pub(crate) fn step_from<D: Domain>(terms: &[Term], cells: &[D], term: u32) -> Op
     match terms[term as usize] {
         Term::Choice { .. } => None,
         Term::Node { op, .. } => {
+            if is_fixed(terms, cells, term) {
+                return None;
+            }
             let forward = Step::Forward { term };
             if tells(terms, cells, forward) {
                 return Some(forward);

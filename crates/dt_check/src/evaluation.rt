@@ -1,4 +1,4 @@
-ghost use Rattle.std.specs.Prelude.{◌≡◌, ◌==◌, ◌^◌, ◌<◌, All, length, slice_index, replicate, IfOk};
+ghost use Rattle.std.specs.Prelude.{◌≡◌, ◌==◌, ◌^◌, ◌<◌, All, length, slice_index, replicate, true, false, IsTrue, IfOk, MatchOption};
 ghost use Rattle.std.specs.List.{list_all};
 ghost use Rattle.dt_terms.specs.Terms.{AreTerms, bits_at, term_at, choices_of};
 ghost use Rattle.dt_terms.specs.Values.{AreFit, bv_at, values_of};
@@ -42,12 +42,47 @@ fn value_among(terms: &[Term], values: &[u128], term: usize) -> u128
     }
 }
 
-// Whether each of these values is 1.
-fn are_ones(required: &[u32], values: &[u128]) -> bool
+// Whether there is a required term at this place, and it isn't 1.
+#[tactic(auto, using(std::proofs::lemmas::List::Folds::list_all_at))]
+fn is_failing(required: &[u32], values: &[u128], place: usize) -> bool
+    requires { All (λ t. t < length values.now) required.now }
+    ensures { IsTrue result → list_all (λ t. slice_index values.now t == 1) required.now ≡ false }
+{
+    if place >= required.len() {
+        return false;
+    }
+    values[required[place] as usize] != 1
+}
+
+// The place of the first required term that isn't 1.
+#[tactic(auto, using(std::proofs::lemmas::List::Folds::list_all_at, std::proofs::lemmas::List::Folds::list_all_more))]
+fn first_failing(required: &[u32], values: &[u128]) -> Option<usize>
+    requires { All (λ t. t < length values.now) required.now }
+    ensures { MatchOption result (list_all (λ t. slice_index values.now t == 1) required.now ≡ true) (λ place. list_all (λ t. slice_index values.now t == 1) required.now ≡ false) }
+{
+    for place in 0..required.len() {
+        if values[required[place] as usize] != 1 {
+            return Some(place);
+        }
+    }
+    None
+}
+
+// Whether each of these values is 1. The place where one was found last that isn't is looked at first.
+fn are_ones(required: &[u32], values: &[u128], failed: &mut usize) -> bool
     requires { All (λ t. t < length values.now) required.now }
     ensures { result ≡ list_all (λ t. slice_index values.now t == 1) required.now }
 {
-    required.iter().all(|term| values[*term as usize] == 1)
+    if is_failing(required, values, *failed) {
+        return false;
+    }
+    match first_failing(required, values) {
+        None => true,
+        Some(place) => {
+            *failed = place;
+            false
+        }
+    }
 }
 
 // The values of the terms where each choice has the number 0.
@@ -67,6 +102,8 @@ pub struct Evaluation {
     values: Vec<u128>,
     // The terms that are to be evaluated again.
     marks: Marks,
+    // Where among the required terms one was found last that isn't 1: it is looked at first.
+    failed: usize,
 }
 
 impl Evaluation {
@@ -84,6 +121,7 @@ impl Evaluation {
         Ok(Evaluation {
             values: first_values(alloc, problem)?,
             marks: Marks::new(alloc, problem.terms.len())?,
+            failed: 0,
         })
     }
 
@@ -156,8 +194,8 @@ impl Evaluation {
         self.marks.clear();
     }
 
-    /// Whether the numbers that the choices have solve the problem. It goes over the required terms, and
-    /// evaluates the terms that use a term whose value changes. It takes no memory.
+    /// Whether the numbers that the choices have solve the problem. It evaluates the terms that use a term
+    /// whose value changes, and looks first at the required term that failed last. It takes no memory.
     pub fn eval(&mut self, problem: &Problem, watches: &Watches) -> bool
         requires watches { watches.now ≡ watches_of problem.now.terms }
         requires seen_to { AreSeenTo problem.now.terms self.old.values.items self.old.marks.marks.items }
@@ -167,6 +205,6 @@ impl Evaluation {
         ensures solves { result ≡ solves problem.now (numbers_of problem.now.terms self.old.values.items) }
     {
         self.evaluate_marked(problem, watches);
-        are_ones(problem.required.as_slice(), &self.values)
+        are_ones(problem.required.as_slice(), &self.values, &mut self.failed)
     }
 }

@@ -13,9 +13,10 @@
 //! The checker keeps one list of cells and a trail, and for each right tree to come 16 bytes. A step
 //! costs one call of the domain; going back costs as much as the changes that it undoes; at a split of
 //! a record, and at its first end that was left, the steps beside the cells that changed since the
-//! cells were last settled are tried, picks are taken where a choice's cell changed since the last trial
-//! or a number was tried then, and of the terms only those are evaluated that use a term whose value
-//! differs from the last trial's.
+//! cells were last settled are tried, or the operator is evaluated where all is known there; picks are
+//! taken where a choice's cell changed since the last trial or a number was tried then; of the terms only
+//! those are evaluated that use a term whose value differs from the last trial's; and of the required
+//! terms the one is looked at first that failed last.
 //!
 //! Only tested, in programs above: that `check_log` succeeds where there is memory.
 #![tactic(auto)]

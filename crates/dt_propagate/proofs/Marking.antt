@@ -1,16 +1,16 @@
 -- Sets of positions: what adding and taking away does, and how the next one is found.
-use Rattle.std.proofs.Common.{◌≡◌, ◌≢◌, ℕ, zero, suc, ◌+◌, ◌-◌, ◌*◌, ◌/◌, ◌%◌, ◌^◌, ◌<◌, ◌≤◌, Bool, true, false, not, ◌&&◌, ◌||◌, eqb, List, [], ◌∷◌, length, get_or, set, refl, sym, ap, ◌∙◌, subst, inl, inr, ◌⊎◌, ⊎_elim, arith, get_or-set_same, get_or-set_other}
+use Rattle.std.proofs.Common.{◌≡◌, ◌≢◌, ℕ, zero, suc, ◌+◌, ◌-◌, ◌*◌, ◌/◌, ◌%◌, ◌^◌, ◌<◌, ◌≤◌, Bool, true, false, not, ◌&&◌, ◌||◌, eqb, List, [], ◌∷◌, Option, Some, None, length, replicate, get_or, set, refl, sym, ap, ◌∙◌, subst, inl, inr, ◌⊎◌, ⊎_elim, arith, get_or-set_same, get_or-set_other}
 use Rattle.std.specs.Int.{bit_not, bit_at}
 use Rattle.std.specs.Int.RustNames.{bit_or}
-use Rattle.std.proofs.lemmas.Bool.{cases_eq, cases_lt, eq-eqb, eqb-true, or_right}
-use Rattle.std.proofs.lemmas.List.{get_or_past}
+use Rattle.std.proofs.lemmas.Bool.{cases_eq, cases_lt, eq-eqb, eqb-true, or_right, and_parts, and_from, true≢false, false_from_ne_true}
+use Rattle.std.proofs.lemmas.List.{get_or_past, length-replicate, get_or-replicate}
 use Rattle.std.proofs.lemmas.Nat.Bits.{bit_at_set_same, bit_at_set_other, bit_at_clear_same, bit_at_clear_other, bit_at-trailing_zeros}
 use Rattle.std.specs.Int.{trailing_zeros}
 use lib.Bits.{bit_and}
 use Rattle.std.proofs.Common.{w64}
 use Rattle.dt_bits.specs.Bits.{bit}
-use Rattle.dt_bits.proofs.BitLemmas.{bit_is, bit_of_shr, bit_of_zero, bit_above, from_at}
-use Rattle.dt_propagate.specs.Marks.{is_marked, Grows}
+use Rattle.dt_bits.proofs.BitLemmas.{bit_is, bit_of_shr, bit_of_zero, bit_of_ones, bit_above, from_at}
+use Rattle.dt_propagate.specs.Marks.{is_marked, AreCovered, Grows, IsNextMark}
 
 -- where rest is 0, no bit from k on is 1
 pub next_none : (word k rest : ℕ) → rest ≡ word / 2 ^ k → rest ≡ 0 → (i : ℕ) → k ≤ i → bit word i ≡ false
@@ -119,3 +119,83 @@ unmarked_none words new from at i u before next l = u i ∙ by_place (cases_eq i
     by_place (inl e) k = ap (λ b. not b && is_marked words i) (eq-eqb i at e)
     by_place (inr n) (inl k) = none (not (eqb i at)) (is_marked words i) (before k)
     by_place (inr n) (inr k) = none (not (eqb i at)) (is_marked words i) (next k (omega arith))
+
+-- between words of the set of words no position is in the set
+pub passed_over : (words tops : List ℕ) (from word i : ℕ) → AreCovered words tops → ((k : ℕ) → from ≤ k → k < word → is_marked tops k ≡ false) → from * 64 ≤ i → i < word * 64
+    → is_marked words i ≡ false
+passed_over words tops from word i c h l m =
+    false_from_ne_true (is_marked words i) (λ e. true≢false (sym (c.each i e) ∙ h (i / 64) (omega arith) (omega arith)))
+
+-- up to a word of the set of words, where none was found before
+pub none_before : (words tops : List ℕ) (first from word i : ℕ) → AreCovered words tops → ((k : ℕ) → first * 64 ≤ k → k < from * 64 → is_marked words k ≡ false)
+    → ((k : ℕ) → from ≤ k → k < word → is_marked tops k ≡ false) → first * 64 ≤ i → i < word * 64 → is_marked words i ≡ false
+none_before words tops first from word i c n h l m =
+    ⊎_elim (λ (k : i < from * 64). n i l k) (λ (k : from * 64 ≤ i). passed_over words tops from word i c h k m) (cases_lt i (from * 64))
+
+-- and within it, up to a bit
+pub none_up_to : (words tops : List ℕ) (first from word b i : ℕ) → AreCovered words tops → ((k : ℕ) → first * 64 ≤ k → k < from * 64 → is_marked words k ≡ false)
+    → ((k : ℕ) → from ≤ k → k < word → is_marked tops k ≡ false) → ((k : ℕ) → k < b → bit (get_or words word 0) k ≡ false) → b ≤ 64 → first * 64 ≤ i → i < word * 64 + b
+    → is_marked words i ≡ false
+none_up_to words tops first from word b i c n h z s l m =
+    ⊎_elim
+    (λ (k : i < word * 64). none_before words tops first from word i c n h l k)
+    (λ (k : word * 64 ≤ i). in_word words word i (i - word * 64) (omega arith) (omega arith) ∙ z (i - word * 64) (omega arith))
+    (cases_lt i (word * 64))
+
+-- where no further word is in the set of words, no further position is in the set
+pub none_left : (words tops : List ℕ) (first from i : ℕ) → AreCovered words tops → ((k : ℕ) → first * 64 ≤ k → k < from * 64 → is_marked words k ≡ false)
+    → ((k : ℕ) → from ≤ k → is_marked tops k ≡ false) → first * 64 ≤ i → is_marked words i ≡ false
+none_left words tops first from i c n h l =
+    none_before words tops first from (suc (i / 64)) i c n (λ k a _. h k a) l (omega arith)
+
+-- a mark more in both
+pub covered_mark : (words tops new more : List ℕ) (at : ℕ) → AreCovered words tops → length new ≡ length words → length more ≡ length tops
+    → ((i : ℕ) → is_marked new i ≡ (eqb i at || is_marked words i)) → ((i : ℕ) → is_marked more i ≡ (eqb i (at / 64) || is_marked tops i)) → AreCovered new more
+covered_mark words tops new more at c n m h g = record {
+  count = let a = c.count in omega arith;
+  few = let a = c.few in omega arith;
+  each = λ i e.
+      ⊎_elim
+      (λ (f : i ≡ at). g (i / 64) ∙ ap (λ b. b || is_marked tops (i / 64)) (eq-eqb (i / 64) (at / 64) (ap (λ k. k / 64) f)))
+      (λ (f : i ≡ at → ⊥). g (i / 64) ∙ or_right (eqb (i / 64) (at / 64)) (is_marked tops (i / 64)) (c.each i (sym (ap (λ b. b || is_marked words i) (eqb_off i at f)) ∙ sym (h i) ∙ e)))
+      (cases_eq i at);
+}
+  where
+    eqb_off : (i at : ℕ) → (i ≡ at → ⊥) → eqb i at ≡ false
+    eqb_off i at f = false_from_ne_true (eqb i at) (λ e. f (eqb-true i at e))
+
+-- a mark less
+pub covered_fewer : (words tops new : List ℕ) (at : ℕ) → AreCovered words tops → length new ≡ length words → ((i : ℕ) → is_marked new i ≡ (not (eqb i at) && is_marked words i)) → AreCovered new tops
+covered_fewer words tops new at c n h = record {
+  count = let a = c.count in omega arith;
+  few = let a = c.few in omega arith;
+  each = λ i e. c.each i ((and_parts (not (eqb i at)) (is_marked words i) (sym (h i) ∙ e)).1);
+}
+
+-- a word that is 0 needs none
+pub covered_zero : (words tops fewer : List ℕ) (word : ℕ) → AreCovered words tops → length fewer ≡ length tops → get_or words word 0 ≡ 0 → ((i : ℕ) → is_marked fewer i ≡ (not (eqb i word) && is_marked tops i))
+    → AreCovered words fewer
+covered_zero words tops fewer word c n z h = record {
+  count = let a = c.count in omega arith;
+  few = let a = c.few in omega arith;
+  each = λ i e.
+      h (i / 64) ∙ and_from (not (eqb (i / 64) word)) (is_marked tops (i / 64))
+      (ap not (false_from_ne_true (eqb (i / 64) word) (λ f. true≢false (sym e ∙ ap (λ w. bit w (i % 64)) (ap (λ k. get_or words k 0) (eqb-true (i / 64) word f) ∙ z) ∙ bit_of_zero (i % 64)))))
+      (c.each i e);
+}
+
+-- words that are all the same, and above them either none or all
+pub covered_new : (n m word top : ℕ) → n ≤ m * 64 → m ≤ n → (word ≡ 0) ⊎ (top ≡ 2 ^ 64 - 1) → AreCovered (replicate n word) (replicate m top)
+covered_new n m word top l k h = record {
+  count = let a = length-replicate n word in let b = length-replicate m top in omega arith;
+  few = let a = length-replicate n word in let b = length-replicate m top in omega arith;
+  each = λ i e. ⊎_elim (λ (f : word ≡ 0). absurd (true≢false (sym e ∙ none i f (cases_lt (i / 64) n)))) (λ (f : top ≡ 2 ^ 64 - 1). above i e f (cases_lt (i / 64) n)) h;
+}
+  where
+    none : (i : ℕ) → word ≡ 0 → (i / 64 < n) ⊎ (n ≤ i / 64) → is_marked (replicate n word) i ≡ false
+    none i f (inl a) = ap (λ w. bit w (i % 64)) (get_or-replicate n (i / 64) word 0 a ∙ f) ∙ bit_of_zero (i % 64)
+    none i f (inr a) = past_words (replicate n word) i (let b = length-replicate n word in omega arith)
+
+    above : (i : ℕ) → is_marked (replicate n word) i ≡ true → top ≡ 2 ^ 64 - 1 → (i / 64 < n) ⊎ (n ≤ i / 64) → is_marked (replicate m top) (i / 64) ≡ true
+    above i e f (inl a) = ap (λ w. bit w (i / 64 % 64)) (get_or-replicate m (i / 64 / 64) top 0 (omega arith) ∙ f) ∙ bit_of_ones 64 (i / 64 % 64) (omega arith)
+    above i e f (inr a) = absurd (true≢false (sym e ∙ past_words (replicate n word) i (let b = length-replicate n word in omega arith)))

@@ -15,6 +15,12 @@ is_marked words t = bit (slice_index words (t / 64)) (t % 64)
 abbrev pub HasRoom : ℕ → List ℕ → Type 0
 HasRoom count words = length words ≡ count / 64 + 1
 
+-- the word of each position in the set is in the set of words
+pub record AreCovered (words tops : List ℕ) : Type 0 where
+  pub count : length words ≤ length tops * 64
+  pub few : length tops ≤ length words
+  pub each : (i : ℕ) → is_marked words i ≡ true → is_marked tops (i / 64) ≡ true
+
 -- the first position from this one on, or none
 abbrev pub IsNextMark : List ℕ → ℕ → Option ℕ → Type 0
 IsNextMark words from None = (i : ℕ) → from ≤ i → is_marked words i ≡ false

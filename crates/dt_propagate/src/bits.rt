@@ -1,14 +1,17 @@
-ghost use Rattle.std.specs.Prelude.{◌≡◌, ◌==◌, ◌||◌, ◌&&◌, ◌+◌, ◌*◌, ◌/◌, ◌%◌, ◌<◌, ◌≤◌, ◌^◌, ℕ, Bool, true, false, not, length, slice_index, IfOk, IfSome, MatchOption};
+ghost use Rattle.std.specs.Prelude.{◌≡◌, ◌==◌, ◌||◌, ◌&&◌, ◌⊎◌, ◌+◌, ◌-◌, ◌*◌, ◌/◌, ◌%◌, ◌<◌, ◌≤◌, ◌^◌, ℕ, Bool, true, false, not, length, slice_index, IfOk, IfSome, MatchOption};
 ghost use Rattle.dt_bits.specs.Bits.{bit};
-ghost use Rattle.dt_propagate.specs.Marks.{is_marked, HasRoom, IsNextMark, IsNextBelow};
+ghost use Rattle.dt_propagate.specs.Marks.{is_marked, AreCovered, HasRoom, IsNextMark, IsNextBelow};
 
 use dt_bits::NoMemory;
 use std::alloc::Global;
 
-// A set of positions, one bit for each.
-#[derive(Debug, Drop)]
+// A set of positions, one bit for each, and above them one bit for each word: it is 1 where the word
+// isn't 0. So words that are 0 are passed over 64 at a time.
+#[derive(Drop)]
 pub(crate) struct Bits {
     pub(crate) words: Vec<u64>,
+    tops: Vec<u64>,
+    ghost covered: { AreCovered words.items tops.items },
 }
 
 // The lowest bit of a word from bit k on that is 1.
@@ -23,7 +26,60 @@ fn next_in(word: u64, k: u32) -> Option<u32>
     Some(k + rest.trailing_zeros())
 }
 
+// What stands above words that are all this one: all bits, unless the word is 0.
+fn top_of(word: u64) -> u64
+    ensures { (word ≡ 0) ⊎ (result ≡ 2 ^ 64 - 1) }
+{
+    if word == 0 { 0 } else { u64::MAX }
+}
+
+// Adds a position to a set.
+fn add(words: &mut [u64], at: u32)
+    requires { at / 64 < length words.old }
+    ensures marks { (i : ℕ) → is_marked words.new i ≡ (i == at || is_marked words.old i) }
+    ensures len { length words.new ≡ length words.old }
+{
+    let word = &mut words[(at / 64) as usize];
+    *word = *word | 1 << at % 64;
+}
+
+// Takes a position out of a set.
+fn take_away(words: &mut [u64], at: u32)
+    requires { at / 64 < length words.old }
+    ensures marks { (i : ℕ) → is_marked words.new i ≡ (not (i == at) && is_marked words.old i) }
+    ensures len { length words.new ≡ length words.old }
+{
+    let word = &mut words[(at / 64) as usize];
+    *word = *word & !(1 << at % 64);
+}
+
+// The first position from this one on, found word by word.
+fn next_of(words: &[u64], from: u32) -> Option<u32>
+    requires { length words.now ≤ 2 ^ 26 }
+    ensures { IsNextMark words.now from result }
+{
+    let first = (from / 64) as usize;
+    if first >= words.len() {
+        return None;
+    }
+    match next_in(words[first], from % 64) {
+        Some(bit) => return Some(first as u32 * 64 + bit),
+        None => {}
+    }
+    for word in first + 1..words.len() {
+        match next_in(words[word], 0) {
+            Some(bit) => return Some(word as u32 * 64 + bit),
+            None => {}
+        }
+    }
+    None
+}
+
 impl Bits {
+    ghost use Rattle.std.specs.Prelude.{◌≡◌, ◌==◌, ◌||◌, ◌&&◌, ◌+◌, ◌*◌, ◌/◌, ◌%◌, ◌<◌, ◌≤◌, ◌^◌, ℕ, not, length, IfOk};
+    ghost use Rattle.dt_bits.specs.Bits.{bit};
+    ghost use Rattle.dt_propagate.specs.Marks.{is_marked, HasRoom, IsNextMark, IsNextBelow};
+
     // No position, or all, of this count.
     pub(crate) fn new(alloc: Global, count: usize, word: u64) -> Result<Bits, NoMemory>
         requires { count < 2 ^ 32 }
@@ -32,6 +88,7 @@ impl Bits {
     {
         Ok(Bits {
             words: vec![in alloc; word; count / 64 + 1]?,
+            tops: vec![in alloc; top_of(word); count / 4096 + 1]?,
         })
     }
 
@@ -41,8 +98,8 @@ impl Bits {
         ensures marks { (i : ℕ) → is_marked self.new.words.items i ≡ (i == at || is_marked self.old.words.items i) }
         ensures len { length self.new.words.items ≡ length self.old.words.items }
     {
-        let word = &mut self.words[(at / 64) as usize];
-        *word = *word | 1 << at % 64;
+        add(&mut self.tops, at / 64);
+        add(&mut self.words, at);
     }
 
     // Takes a position away.
@@ -51,8 +108,30 @@ impl Bits {
         ensures marks { (i : ℕ) → is_marked self.new.words.items i ≡ (not (i == at) && is_marked self.old.words.items i) }
         ensures len { length self.new.words.items ≡ length self.old.words.items }
     {
-        let word = &mut self.words[(at / 64) as usize];
-        *word = *word & !(1 << at % 64);
+        take_away(&mut self.words, at);
+        if self.words[(at / 64) as usize] == 0 {
+            take_away(&mut self.tops, at / 64);
+        }
+    }
+
+    // The first position from this word on.
+    fn next_after(&self, first: u32) -> Option<u32>
+        requires len { length self.now.words.items ≤ 2 ^ 26 }
+        requires first { first ≤ length self.now.words.items }
+        ensures { IsNextMark self.now.words.items (first * 64) result }
+    {
+        let mut from = first;
+        'words: while let Some(word) = next_of(&self.tops, from) {
+            if word as usize >= self.words.len() {
+                return None;
+            }
+            match next_in(self.words[word as usize], 0) {
+                Some(bit) => return Some(word * 64 + bit),
+                None => {}
+            }
+            from = word + 1;
+        }
+        None
     }
 
     // The first position from this one on.
@@ -65,16 +144,9 @@ impl Bits {
             return None;
         }
         match next_in(self.words[first], from % 64) {
-            Some(bit) => return Some(first as u32 * 64 + bit),
-            None => {}
+            Some(bit) => Some(first as u32 * 64 + bit),
+            None => self.next_after(first as u32 + 1),
         }
-        for word in first + 1..self.words.len() {
-            match next_in(self.words[word], 0) {
-                Some(bit) => return Some(word as u32 * 64 + bit),
-                None => {}
-            }
-        }
-        None
     }
 
     // The first position from this one on, if it is below the end.

@@ -15,7 +15,7 @@ use std::alloc::Global;
 // The step from the operands of the term t stands at position t; the steps to the operands of the
 // term t stand at position 2n - 1 - t, where n is the number of terms. So a scan that rises goes
 // over the nodes as they depend on one another, and then back.
-#[derive(Debug, Drop)]
+#[derive(Drop)]
 pub(crate) struct Marks {
     pub(crate) bits: Bits,
     pub(crate) narrowings: u64,

@@ -54,12 +54,11 @@ module _ (D : Type 0) (ops : DomainOps D) (p : ProblemData) (limit : ℕ) (aim :
         }
 
     -- a search before its first turn
-    pub first : (root cells : List D) (trail : List (ℕ × D)) (pending : List Pending) (early lines : List Line) → AreCells ops p.terms cells → IsLogged ops p.terms root early cells lines
-        → root ≡ root_cells ops p → trail ≡ [] → pending ≡ [] → early ≡ [] → IsSearching ops p limit aim cells trail pending lines 0
-    first root cells trail pending early lines h g a b c d =
+    pub first : (cells : List D) (trail : List (ℕ × D)) (pending : List Pending) (lines : List Line) → AreCells ops p.terms cells → IsLogged ops p.terms (root_cells ops p) [] cells lines
+        → trail ≡ [] → pending ≡ [] → IsSearching ops p limit aim cells trail pending lines 0
+    first cells trail pending lines h g b c =
         subst (λ (t : List (ℕ × D)). IsSearching ops p limit aim cells t pending lines 0) (sym b)
-        (subst (λ x. IsSearching ops p limit aim cells [] x lines 0) (sym c)
-        (first_state cells lines h (subst (λ x. IsLogged ops p.terms x [] cells lines) a (subst (λ x. IsLogged ops p.terms root x cells lines) d g))))
+        (subst (λ x. IsSearching ops p limit aim cells [] x lines 0) (sym c) (first_state cells lines h g))
 
     pub spent_log : (lines log : List Line) (claim : Claim) → log ≡ lines → claim ≡ Budget limit → IsRead ops p limit aim lines [] limit true → IsSpent ops p limit claim log
     spent_log lines log claim e c h =

@@ -1,10 +1,12 @@
 ghost use Rattle.std.specs.Prelude.{◌≡◌, true, IfOk, IfSome};
 ghost use Rattle.dt_log.specs.Shapes.{is_tree};
 ghost use Rattle.dt_solve.specs.Outcomes.{IsAnswer, IsEnded, FindsAim, FollowsAim};
+ghost use Rattle.dt_solve.specs.Roots.{IsRoot};
 
 use crate::guiding::Rule;
 use crate::outcome::Outcome;
 use crate::proposer::Proposer;
+use crate::root::{Root, is_refuted, root_again, settled_root};
 use crate::tried::Tried;
 use crate::turning::{Search, Turned, begin, turn};
 use crate::writing::without_tries;
@@ -39,14 +41,16 @@ fn log_of(draft: Draft, claim: Claim) -> Log
     }
 }
 
-// One search, in which bits are split by this rule.
+// One search from this root, in which bits are split by this rule.
 fn attempt<D: Deciding, P: Proposer<D>>(
     alloc: Global,
     problem: &Problem,
+    root: Root<D>,
     limit: u64,
     rule: Rule,
     proposer: &mut P,
 ) -> Result<Outcome, NoMemory>
+    requires root { IsRoot D.ops problem.now root.cells root.draft.lines root.end }
     ensures answer { IfOk result (λ outcome. IsAnswer D.ops problem.now limit outcome) }
     ensures finds { IfOk result (λ outcome. FindsAim problem.now (P.aim proposer.old) outcome) }
     ensures follows { IfOk result (λ outcome. FollowsAim D.ops problem.now (P.aim proposer.old) outcome) }
@@ -54,7 +58,7 @@ fn attempt<D: Deciding, P: Proposer<D>>(
 {
     let _ = &problem.terms;
     let mut tried = Tried::new(alloc, problem)?;
-    let mut search: Search<D> = begin(alloc, problem, rule)?;
+    let mut search: Search<D> = begin(alloc, problem, root, rule)?;
     loop {
         match turn(alloc, problem, limit, proposer, &mut search, &mut tried)? {
             Turned::More => {}
@@ -74,15 +78,18 @@ fn attempt<D: Deciding, P: Proposer<D>>(
 fn attempts<D: Deciding, P: Proposer<D>>(
     alloc: Global,
     problem: &Problem,
+    root: &Root<D>,
     limit: u64,
     proposer: &mut P,
 ) -> Result<Option<Outcome>, NoMemory>
+    requires root { IsRoot D.ops problem.now root.now.cells root.now.draft.lines root.now.end }
     ensures answer { IfOk result (λ ended. IfSome ended (IsEnded D.ops problem.now)) }
     ensures finds { IfOk result (λ ended. IfSome ended (FindsAim problem.now (P.aim proposer.old))) }
     ensures aim { P.aim proposer.new ≡ P.aim proposer.old }
 {
     for rule in RULES {
-        match attempt(alloc, problem, limit, rule, proposer)? {
+        let again = root_again(alloc, root)?;
+        match attempt(alloc, problem, again, limit, rule, proposer)? {
             Outcome::Found(numbers) => return Ok(Some(Outcome::Found(numbers))),
             Outcome::Refuted(log) => return Ok(Some(Outcome::Refuted(log))),
             Outcome::Spent(_record) => {}
@@ -98,7 +105,7 @@ fn attempts<D: Deciding, P: Proposer<D>>(
 /// failed. The record doesn't come where `limit` is `2^C - 1` or more, `C` being the number of bits of
 /// all choices.
 ///
-/// Which bit is split is free. First there are searches with fewer splits, each by another rule; only
+/// The root is settled once. Which bit is split is free. First there are searches with fewer splits, each by another rule; only
 /// where these find and refute nothing, the one whose record is answered comes.
 ///
 /// An aim that the proposer tells and that solves the problem is found, whatever the limit. The
@@ -114,13 +121,14 @@ pub fn search<D: Deciding, P: Proposer<D>>(
     ensures follows { IfOk result (λ outcome. FollowsAim D.ops problem.now (P.aim proposer.old) outcome) }
     ensures aim { P.aim proposer.new ≡ P.aim proposer.old }
 {
+    let root: Root<D> = settled_root(alloc, problem)?;
     let mut reach = FIRST_REACH;
-    while reach < limit {
-        match attempts(alloc, problem, reach, proposer)? {
+    while reach < limit && !is_refuted(&root) {
+        match attempts(alloc, problem, &root, reach, proposer)? {
             Some(outcome) => return Ok(outcome),
             None => {}
         }
         reach = reach.saturating_mul(RISE);
     }
-    attempt(alloc, problem, limit, Rule::BlamedLast, proposer)
+    attempt(alloc, problem, root, limit, Rule::BlamedLast, proposer)
 }

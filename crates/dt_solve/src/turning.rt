@@ -10,12 +10,14 @@ ghost use Rattle.dt_log.specs.declared.line.Line.TheVariants.{Split, Close};
 ghost use Rattle.dt_check.specs.declared.pending.Pending.{Pending};
 ghost use Rattle.dt_check.specs.Waiting.{Stacked, CanBegin, AtSplits, IsNext, IsBegun};
 ghost use Rattle.dt_check.specs.Trying.{IsTrial};
-ghost use Rattle.dt_propagate.specs.Settling.{IsLogged, IsProgress, IsEnd};
-ghost use Rattle.dt_solve.specs.Searching.{IsStart, IsAt, IsTurned};
+ghost use Rattle.dt_propagate.specs.Settling.{IsProgress, IsEnd};
+ghost use Rattle.dt_solve.specs.Roots.{IsRoot};
+ghost use Rattle.dt_solve.specs.Searching.{IsStart, IsSearching, IsAt, IsTurned};
 
 use crate::choosing::{ChoiceBit, bit_to_split};
 use crate::guiding::{Guide, Rule};
 use crate::proposer::Proposer;
+use crate::root::Root;
 use crate::tried::Tried;
 use crate::writing::{write_rest, write_tries};
 use dt_bits::NoMemory;
@@ -23,7 +25,7 @@ use dt_box::{Cells, Trail, Watches};
 use dt_check::{Pending, Trial, next_tree};
 use dt_domain::{Deciding, Domain};
 use dt_log::{Draft, Line};
-use dt_propagate::{Settled, settle_from, settle_with};
+use dt_propagate::{Settled, settle_from};
 use dt_terms::Problem;
 use std::alloc::Global;
 
@@ -64,41 +66,21 @@ pub(crate) struct Search<D: Domain> {
     pub(crate) guide: Guide,
 }
 
-// Settles root cells, of which some may be empty.
-fn settle_root<D: Deciding>(
-    alloc: Global,
-    problem: &Problem,
-    watches: &Watches,
-    cells: &mut Cells<D>,
-    draft: &mut Draft,
-) -> Result<Settled, NoMemory>
-    requires cells { AreCells D.ops problem.now.terms cells.old }
-    requires watches { watches.now ≡ watches_of problem.now.terms }
-    ensures cells { AreCells D.ops problem.now.terms cells.new }
-    ensures logged { IsLogged D.ops problem.now.terms cells.old draft.old.lines cells.new draft.new.lines }
-    ensures end { IfOk result (λ end. IsEnd D.ops problem.now.terms end cells.new (IsSettled D.ops problem.now.terms cells.new)) }
-{
-    match cells.empty_cell() {
-        Some(term) => Ok(Settled::Empty(term)),
-        None => settle_with(alloc, problem, watches, cells, draft),
-    }
-}
-
-// A search before its first turn: the root cells are settled.
+// A search before its first turn, from settled root cells.
 pub(crate) fn begin<D: Deciding>(
     alloc: Global,
     problem: &Problem,
+    root: Root<D>,
     rule: Rule,
 ) -> Result<Search<D>, NoMemory>
+    requires root { IsRoot D.ops problem.now root.cells root.draft.lines root.end }
     ensures { IfOk result (λ search. (limit : ℕ) → (aim : Option (List ℕ)) → IsAt D.ops problem.now limit aim search) }
 {
     let _ = &problem.terms;
-    let mut cells: Cells<D> = Cells::root(alloc, problem)?;
+    let Root { cells, draft, end } = root;
     let trail = Trail::new(alloc)?;
     let pending = Vec::new(alloc);
-    let mut draft = Draft::new(alloc);
     let trial = Trial::new(alloc, problem)?;
-    let end = settle_root(alloc, problem, trial.watches(), &mut cells, &mut draft)?;
     Ok(Search {
         cells,
         trail,
@@ -200,6 +182,54 @@ fn split_tree<D: Domain>(
     Ok(())
 }
 
+// At settled cells numbers are tried, and where they fail, a bit is split, unless the limit is reached.
+fn try_or_split<D: Deciding, P: Proposer<D>>(
+    problem: &Problem,
+    limit: u64,
+    proposer: &mut P,
+    search: &mut Search<D>,
+    tried: &mut Tried,
+) -> Result<Turned, NoMemory>
+    requires numbers { length tried.old.numbers.items ≡ length (choices_of problem.now.terms) }
+    requires searching { IsSearching D.ops problem.now limit (P.aim proposer.old) search.old.cells search.old.trail search.old.pending.items search.old.draft.lines search.old.splits }
+    requires settled { IsSettled D.ops problem.now.terms search.old.cells }
+    requires trial { IsTrial D.ops problem.now.terms search.old.cells search.old.trail search.old.trial }
+    ensures turned { IfOk result (λ turned. IsTurned D.ops problem.now limit (P.aim proposer.old) search.old turned search.new tried.new.numbers.items) }
+    ensures numbers { OnOk result (length tried.new.numbers.items ≡ length (choices_of problem.now.terms)) }
+    ensures aim { P.aim proposer.new ≡ P.aim proposer.old }
+{
+    let _ = &problem.terms;
+    let solves = tried.try_numbers(
+        problem,
+        &search.cells,
+        &search.trail,
+        &mut search.trial,
+        proposer,
+    )?;
+    if solves {
+        return Ok(Turned::Found);
+    }
+    write_tries(&tried.pairs, &mut search.draft)?;
+    if search.splits == limit {
+        write_rest(&mut search.draft, search.pending.len())?;
+        return Ok(Turned::Spent);
+    }
+    let values = search.trial.values();
+    let hint = search.guide.hint(problem, &search.cells, values)?;
+    let split = bit_to_split(problem, &search.cells, hint);
+    split_tree(
+        problem,
+        &mut search.cells,
+        &mut search.trail,
+        &mut search.pending,
+        &mut search.draft,
+        split,
+    )?;
+    search.splits += 1;
+    search.start = Start::Changed(split.term);
+    Ok(Turned::More)
+}
+
 // A turn: the cells are settled; where one is empty, the tree is closed and the next one begun; else
 // numbers are tried, and where they fail, a bit is split, unless the limit is reached.
 pub(crate) fn turn<D: Deciding, P: Proposer<D>>(
@@ -242,36 +272,6 @@ pub(crate) fn turn<D: Deciding, P: Proposer<D>>(
                 Ok(Turned::More)
             }
         },
-        Settled::Quiet => {
-            let solves = tried.try_numbers(
-                problem,
-                &search.cells,
-                &search.trail,
-                &mut search.trial,
-                proposer,
-            )?;
-            if solves {
-                return Ok(Turned::Found);
-            }
-            write_tries(&tried.pairs, &mut search.draft)?;
-            if search.splits == limit {
-                write_rest(&mut search.draft, search.pending.len())?;
-                return Ok(Turned::Spent);
-            }
-            let values = search.trial.values();
-            let hint = search.guide.hint(problem, &search.cells, values)?;
-            let split = bit_to_split(problem, &search.cells, hint);
-            split_tree(
-                problem,
-                &mut search.cells,
-                &mut search.trail,
-                &mut search.pending,
-                &mut search.draft,
-                split,
-            )?;
-            search.splits += 1;
-            search.start = Start::Changed(split.term);
-            Ok(Turned::More)
-        }
+        Settled::Quiet => try_or_split(problem, limit, proposer, search, tried),
     }
 }

@@ -61,3 +61,14 @@ pub(crate) fn without_tries(alloc: Global, draft: &Draft) -> Result<Draft, NoMem
     }
     Ok(bare)
 }
+
+// A draft of the same items.
+pub(crate) fn copy_of(alloc: Global, draft: &Draft) -> Result<Draft, NoMemory>
+    ensures { IfOk result (λ copy. copy.lines ≡ draft.now.lines) }
+{
+    let mut copy = Draft::new(alloc);
+    for at in 0..draft.lines.len() {
+        copy.push(draft.lines.at(at))?;
+    }
+    Ok(copy)
+}

@@ -50,11 +50,6 @@ close_tree-requires-clause-trial g c =
     let s = c.args.search.now in
     trial_kept g.row.D.Denot g.D.Domain.ops c.args.problem.now.terms s.cells c.settle_start.new.cells s.trail c.settle_start.new.trail s.trial c.settle_start.ensures.progress.kept c.requires.at.trial
 
-pub try_numbers-requires-clause-trial : goal.try_numbers-requires-clause-trial
-try_numbers-requires-clause-trial g c =
-    let s = c.args.search.now in
-    trial_kept g.row.D.Denot g.D.Domain.ops c.args.problem.now.terms s.cells c.settle_start.new.cells s.trail c.settle_start.new.trail s.trial c.settle_start.ensures.progress.kept c.requires.at.trial
-
 pub returns-in-None-clause-turned : goal.returns-in-None-clause-turned
 returns-in-None-clause-turned g c =
     let D = g.row.D.Denot in
@@ -98,98 +93,24 @@ returns-in-Some-clause-turned g c =
     let b = begun D ops p g.met.D.Domain.laws problem g.met.D.Deciding.decides c.args.limit aim cells trail pending lines c.close_tree.new.draft.lines s.splits new longer c.close_tree.new.pending.items c.in-Some.split h k.0 k.1 first next in
     (record { searching = b.0; start = b.1; trial = c.in_ok-close_tree-in-Empty.ensures.trial }, b.2)
 
-pub returns-then-solves-clause-turned : goal.returns-then-solves-clause-turned
-returns-then-solves-clause-turned g c =
+pub try_or_split-requires-clause-searching : goal.try_or_split-requires-clause-searching
+try_or_split-requires-clause-searching g c =
     let D = g.row.D.Denot in
     let ops = g.D.Domain.ops in
     let p = c.args.problem.now in
     let aim = g.P.Proposer.aim c.args.proposer.now in
     let s = c.args.search.now in
-    let cells = c.settle_start.new.cells in
-    let trail = c.settle_start.new.trail in
-    let lines = c.settle_start.new.draft.lines in
-    let pending = s.pending.items in
     let problem : IsProblem p = subst IsProblem c.problem.view_is c.problem.invariant.0 in
-    let h = moved D ops p g.met.D.Domain.laws problem g.met.D.Deciding.decides c.args.limit aim s.cells s.trail pending s.draft.lines s.splits cells trail lines c.requires.at.searching c.settle_start.ensures.progress in
-    let numbers = c.try_numbers.new.self.numbers.items in
-    let f = sym c.in_ok-solves-in-Quiet.ensures.solves ∙ c.if-solves.true in
-    let told = c.try_numbers.ensures.told in
-    let held = c.try_numbers.ensures.held in
-    (c.try_numbers.ensures.assignment, f, are_aim D ops p cells aim numbers h.cells_are h.aimed told)
+    moved D ops p g.met.D.Domain.laws problem g.met.D.Deciding.decides c.args.limit aim s.cells s.trail s.pending.items s.draft.lines s.splits c.settle_start.new.cells c.settle_start.new.trail c.settle_start.new.draft.lines c.requires.at.searching c.settle_start.ensures.progress
 
-pub returns-then-search-limit-clause-turned : goal.returns-then-search-limit-clause-turned
-returns-then-search-limit-clause-turned g c =
-    let D = g.row.D.Denot in
+pub try_or_split-requires-clause-settled : goal.try_or_split-requires-clause-settled
+try_or_split-requires-clause-settled g c =
     let ops = g.D.Domain.ops in
     let p = c.args.problem.now in
-    let aim = g.P.Proposer.aim c.args.proposer.now in
-    let s = c.args.search.now in
     let cells = c.settle_start.new.cells in
-    let trail = c.settle_start.new.trail in
-    let lines = c.settle_start.new.draft.lines in
-    let pending = s.pending.items in
-    let problem : IsProblem p = subst IsProblem c.problem.view_is c.problem.invariant.0 in
-    let h = moved D ops p g.met.D.Domain.laws problem g.met.D.Deciding.decides c.args.limit aim s.cells s.trail pending s.draft.lines s.splits cells trail lines c.requires.at.searching c.settle_start.ensures.progress in
-    let quiet = subst (λ (e : Settled). IsEnd ops p.terms e cells (IsSettled ops p.terms cells)) c.in-Quiet.is c.in_ok-term.ensures.end in
-    let numbers = c.try_numbers.new.self.numbers.items in
-    let f = sym c.in_ok-solves-in-Quiet.ensures.solves ∙ c.if-solves.false in
-    let told = c.try_numbers.ensures.told in
-    let held = c.try_numbers.ensures.held in
-    let wrote = c.in_ok-write_tries-in-Quiet.ensures ∙ ap (λ (pairs : List (ℕ × ℕ)). lines ++ map try_line pairs) (c.deref.ensures.value ∙ c.in_ok-solves-in-Quiet.ensures.pairs) in
-    let size : s.pending.len ≡ length pending = omega (arith, c.len.ensures) in
-    let r = spent D ops p g.met.D.Domain.laws problem g.met.D.Deciding.decides c.args.limit aim cells trail pending lines s.splits h numbers quiet.1 held f told
-    c.write_tries.new.draft.lines c.write_rest.new.draft.lines wrote
-    (c.in_ok-write_rest-in-Quiet.ensures ∙ ap (λ n. c.write_tries.new.draft.lines ++ Loose ∷ replicate n Unvisited) (c.len.ensures ∙ size)) in (
-      subst (λ n. IsRead ops p c.args.limit aim c.write_rest.new.draft.lines [] n true) c.if-search-limit.true r,
-      no_aim D ops p aim numbers (are_aim D ops p cells aim numbers h.cells_are h.aimed told) f,
-    )
+    (subst (λ (e : Settled). IsEnd ops p.terms e cells (IsSettled ops p.terms cells)) c.in-Quiet.is c.in_ok-term.ensures.end).1
 
-pub bit_to_split-split-requires-clause-unknown : goal.bit_to_split-split-requires-clause-unknown
-bit_to_split-split-requires-clause-unknown g c =
-    let D = g.row.D.Denot in
-    let ops = g.D.Domain.ops in
-    let p = c.args.problem.now in
-    let aim = g.P.Proposer.aim c.args.proposer.now in
+pub try_or_split-requires-clause-trial : goal.try_or_split-requires-clause-trial
+try_or_split-requires-clause-trial g c =
     let s = c.args.search.now in
-    let cells = c.settle_start.new.cells in
-    let trail = c.settle_start.new.trail in
-    let lines = c.settle_start.new.draft.lines in
-    let pending = s.pending.items in
-    let problem : IsProblem p = subst IsProblem c.problem.view_is c.problem.invariant.0 in
-    let h = moved D ops p g.met.D.Domain.laws problem g.met.D.Deciding.decides c.args.limit aim s.cells s.trail pending s.draft.lines s.splits cells trail lines c.requires.at.searching c.settle_start.ensures.progress in
-    let quiet = subst (λ (e : Settled). IsEnd ops p.terms e cells (IsSettled ops p.terms cells)) c.in-Quiet.is c.in_ok-term.ensures.end in
-    let numbers = c.try_numbers.new.self.numbers.items in
-    let f = sym c.in_ok-solves-in-Quiet.ensures.solves ∙ c.if-solves.false in
-    let told = c.try_numbers.ensures.told in
-    let held = c.try_numbers.ensures.held in
-    not_known D ops p g.met.D.Domain.laws problem g.met.D.Deciding.decides cells numbers h.cells_are quiet.1 h.required c.try_numbers.ensures.assignment held f
-
-pub returns-in_ok-split_tree-in-Quiet-clause-turned : goal.returns-in_ok-split_tree-in-Quiet-clause-turned
-returns-in_ok-split_tree-in-Quiet-clause-turned g c =
-    let D = g.row.D.Denot in
-    let ops = g.D.Domain.ops in
-    let p = c.args.problem.now in
-    let aim = g.P.Proposer.aim c.args.proposer.now in
-    let s = c.args.search.now in
-    let cells = c.settle_start.new.cells in
-    let trail = c.settle_start.new.trail in
-    let lines = c.settle_start.new.draft.lines in
-    let pending = s.pending.items in
-    let problem : IsProblem p = subst IsProblem c.problem.view_is c.problem.invariant.0 in
-    let h = moved D ops p g.met.D.Domain.laws problem g.met.D.Deciding.decides c.args.limit aim s.cells s.trail pending s.draft.lines s.splits cells trail lines c.requires.at.searching c.settle_start.ensures.progress in
-    let quiet = subst (λ (e : Settled). IsEnd ops p.terms e cells (IsSettled ops p.terms cells)) c.in-Quiet.is c.in_ok-term.ensures.end in
-    let numbers = c.try_numbers.new.self.numbers.items in
-    let f = sym c.in_ok-solves-in-Quiet.ensures.solves ∙ c.if-solves.false in
-    let told = c.try_numbers.ensures.told in
-    let held = c.try_numbers.ensures.held in
-    let most = c.requires.at.searching.most in
-    let other = c.if-search-limit.false in
-    let wrote = c.in_ok-write_tries-in-Quiet.ensures ∙ ap (λ (pairs : List (ℕ × ℕ)). lines ++ map try_line pairs) (c.deref.ensures.value ∙ c.in_ok-solves-in-Quiet.ensures.pairs) in
-    let split = c.bit_to_split-split.result in
-    let q : Pending = record { length = length trail; term = split.term; bit = split.bit } in
-    let b = splits_on D ops p g.met.D.Domain.laws problem g.met.D.Deciding.decides c.args.limit aim cells trail pending lines s.splits h numbers quiet.1 held f told
-    c.write_tries.new.draft.lines c.split_tree.new.draft.lines c.split_tree.new.cells c.split_tree.new.trail q c.split_tree.new.pending.items
-    c.bit_to_split-split.ensures (omega arith) wrote c.in_ok-split_tree-in-Quiet.ensures.lines refl c.in_ok-split_tree-in-Quiet.ensures.pending
-    c.in_ok-split_tree-in-Quiet.ensures.cells c.in_ok-split_tree-in-Quiet.ensures.kept (no_aim D ops p aim numbers (are_aim D ops p cells aim numbers h.cells_are h.aimed told) f) in
-    let t = trial_kept D ops p.terms cells c.split_tree.new.cells trail c.split_tree.new.trail c.try_numbers.new.trial c.in_ok-split_tree-in-Quiet.ensures.kept c.in_ok-solves-in-Quiet.ensures.trial in
-    (record { searching = b.0; start = b.1; trial = t }, b.2)
+    trial_kept g.row.D.Denot g.D.Domain.ops c.args.problem.now.terms s.cells c.settle_start.new.cells s.trail c.settle_start.new.trail s.trial c.settle_start.ensures.progress.kept c.requires.at.trial

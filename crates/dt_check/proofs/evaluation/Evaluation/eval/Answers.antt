@@ -18,7 +18,7 @@ returns c =
     let e : values ≡ values_of terms numbers =
     values_in_line terms right values done.are.count done.in_line ∙ ap (values_of terms) (numbers_same terms values old c.evaluate_marked.ensures.choices) in
     record {
-      evaluated = done;
+      evaluated = record { are = done.are; in_line = done.in_line; unmarked = done.unmarked };
       choices = c.evaluate_marked.ensures.choices;
       values = e;
       solves = c.are_ones.ensures

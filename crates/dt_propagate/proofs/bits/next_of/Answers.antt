@@ -2,14 +2,14 @@ use Rattle.std.proofs.Common.{◌≡◌, ℕ, ◌+◌, ◌*◌, ◌/◌, ◌%◌
 use Rattle.std.proofs.lemmas.Bool.{cases_lt}
 use Rattle.dt_propagate.specs.Marks.{is_marked}
 use Rattle.dt_propagate.proofs.Marking.{past_words, in_word}
-use Rattle.dt_propagate.proofs.bits.Bits.next.Goals as goal
+use Rattle.dt_propagate.proofs.bits.next_of.Goals as goal
 
 pub returns-then-first-len : goal.returns-then-first-len
-returns-then-first-len c = λ i l. past_words c.args.self.now.words.items i (omega (arith, c.len.ensures, c.if-first-len.true))
+returns-then-first-len c = λ i l. past_words c.args.words.now i (omega (arith, c.len.ensures, c.if-first-len.true))
 
 pub returns : goal.returns
 returns c = λ i l.
     ⊎_elim
     (λ (m : i < c.loop-word.word * 64). c.loop-word.invariant i l m)
-    (λ (m : c.loop-word.word * 64 ≤ i). past_words c.args.self.now.words.items i (omega (arith, c.len-word-end.ensures, c.loop-word-test.false)))
+    (λ (m : c.loop-word.word * 64 ≤ i). past_words c.args.words.now i (omega (arith, c.len-word-end.ensures, c.loop-word-test.false)))
     (cases_lt i (c.loop-word.word * 64))

@@ -1,0 +1,7 @@
+use Rattle.std.proofs.Common.{◌≡◌, true, eqb, get_or, take}
+use Rattle.std.specs.List.{list_all}
+use Rattle.dt_check.proofs.evaluation.first_failing.Given as goal
+
+-- those up to here are 1
+abbrev pub invariant-loop-place : goal.invariant-loop-place
+invariant-loop-place l = list_all (λ t. eqb (get_or l.values t 0) 1) (take l.place l.required) ≡ true
