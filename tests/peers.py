@@ -17,7 +17,8 @@ prints a list for a model (a model's text) as SMT-LIB. A solution is an image th
 
 reads such texts again by a strict reader that checks sorts, puts images in and evaluates: an image
 that meets its list has to satisfy every assertion, one that breaks it has to break one. Where the
-program is built, its own images and such with one wrong bit are tried beside `replay`.
+program is built, its own images and such with one wrong bit are tried beside `replay`; where solvers
+are installed, they have to agree with what is known of some lists, and with `solve` on random ones.
 
 smt_write.py says how a list is written, smt_read.py how it is read again.
 """
@@ -210,6 +211,26 @@ def random_lists(runs: int) -> Iterator[tuple[str, bool]]:
             yield f"the random list {run}", (not values.broken()) == all(judge.claims(image, asked))
 
 
+def solved_by_all(runs: int, solvers: dict[str, list[str]]) -> Iterator[tuple[str, bool]]:
+    """Random lists of tests/judge.py with demands about a second image: `solve` and each solver agree."""
+    import judge
+    draw, base, model = random.Random(2), judge.example(), str(TOP / "examples/claims/model")
+    with tempfile.TemporaryDirectory() as folder:
+        asked, text = f"{folder}/list", f"{folder}/list.smt2"
+        for run in range(runs):
+            image = judge.changed(draw, base)
+            wished = judge.asked_of(draw, image)
+            other = judge.asked_of(draw, judge.changed(draw, image))["demands"]
+            wished["demands"][0] += other[0][:1] + other[-1][:1]
+            Path(asked).write_text(judge.list_text(image, wished))
+            Path(text).write_text(smt_of(read_model(model), read_requests(asked)))
+            status = said(["solve", model, asked, SPLITS, SEED]).returncode
+            for name, words in solvers.items():
+                answer = measured(words + [text], 60)[1]
+                agreed = (status, answer) in ((0, "sat"), (1, "unsat")) or status == 2 or answer == "stopped"
+                yield f"list {run}: status {status}, and {name} says {answer}", agreed
+
+
 def changed_image(draw: random.Random, text: str) -> str:
     """The image with one bit of a register, an input or a word turned."""
     lines = text.splitlines()
@@ -251,6 +272,8 @@ def selftest() -> int:
     else:
         print("skipped: the program isn't built, so none of its images is tried")
     solvers, folder = installed(), TOP / "examples"
+    if solvers and os.access(PROGRAM, os.X_OK):
+        parts.append(solved_by_all(30, solvers))
     for asked, want in KNOWN:
         model = folder / asked.split("/")[0] / "model"
         parts.append(solved_by(solvers, str(model if model.exists() else SV39), str(folder / asked), want))
