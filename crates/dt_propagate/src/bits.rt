@@ -34,20 +34,20 @@ fn top_of(word: u64) -> u64
 }
 
 // Adds a position to a set.
-fn add(words: &mut [u64], at: u32)
-    requires { at / 64 < length words.old }
-    ensures marks { (i : ℕ) → is_marked words.new i ≡ (i == at || is_marked words.old i) }
-    ensures len { length words.new ≡ length words.old }
+fn add(words: &mut Vec<u64>, at: u32)
+    requires { at / 64 < length words.old.items }
+    ensures marks { (i : ℕ) → is_marked words.new.items i ≡ (i == at || is_marked words.old.items i) }
+    ensures len { length words.new.items ≡ length words.old.items }
 {
     let word = &mut words[(at / 64) as usize];
     *word = *word | 1 << at % 64;
 }
 
 // Takes a position out of a set.
-fn take_away(words: &mut [u64], at: u32)
-    requires { at / 64 < length words.old }
-    ensures marks { (i : ℕ) → is_marked words.new i ≡ (not (i == at) && is_marked words.old i) }
-    ensures len { length words.new ≡ length words.old }
+fn take_away(words: &mut Vec<u64>, at: u32)
+    requires { at / 64 < length words.old.items }
+    ensures marks { (i : ℕ) → is_marked words.new.items i ≡ (not (i == at) && is_marked words.old.items i) }
+    ensures len { length words.new.items ≡ length words.old.items }
 {
     let word = &mut words[(at / 64) as usize];
     *word = *word & !(1 << at % 64);
