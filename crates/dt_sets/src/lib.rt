@@ -25,6 +25,7 @@ mod narrow;
 mod partners;
 mod selections;
 mod sets_domain;
+mod steps;
 mod triple_domain;
 mod triple_normal;
 
