@@ -5,3 +5,4 @@ pub mod Alike
 pub mod Choosing
 pub mod Triples
 pub mod Unlisted
+pub mod OneBits

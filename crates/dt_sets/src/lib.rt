@@ -22,6 +22,7 @@ use dt_range::Range;
 mod gather;
 mod listing;
 mod narrow;
+mod one_bit;
 mod partners;
 mod selections;
 mod sets_domain;

@@ -1,4 +1,5 @@
 //! Triple as a domain: a Pair and Sets, part by part, and then normalised.
+use crate::one_bit::{told_backward, told_forward};
 use crate::partners::is_unlisted;
 use crate::{Sets, Triple};
 use dt_bits::{Bv, Op, Width, is_some_used};
@@ -101,6 +102,9 @@ impl Domain for Triple {
 
     #[inline(always)]
     fn narrowed_forward(&self, op: Op, a: &Triple, b: &Triple, c: &Triple) -> Option<Triple> {
+        if let Some(told) = told_forward(op, a, b, c) {
+            return self.narrowed_to_bits(told);
+        }
         if is_some_used(op, a.sets.many, b.sets.many, c.sets.many) {
             let known = Known::forward(op, &a.known, &b.known, &c.known);
             let range = Range::forward(op, &a.range, &b.range, &c.range);
@@ -120,6 +124,9 @@ impl Domain for Triple {
         b: &Triple,
         c: &Triple,
     ) -> Option<Triple> {
+        if let Some(told) = told_backward(op, place, outcome, a, b, c) {
+            return self.narrowed_to_bits(told);
+        }
         if is_unlisted(op, &outcome.sets, &a.sets, &b.sets, &c.sets) {
             let known = Known::backward(op, place, &outcome.known, &a.known, &b.known, &c.known);
             let range = Range::backward(op, place, &outcome.range, &a.range, &b.range, &c.range);

@@ -1,12 +1,19 @@
-use Rattle.std.proofs.Common.{sym, ◌∙◌}
+use Rattle.std.proofs.Common.{sym, ap, ◌∙◌}
+use Rattle.dt_bits.specs.declared.value.Width.{Width}
 use Rattle.dt_pair.specs.Laws.Parts.{at_known, at_range}
 use Rattle.dt_pair.specs.Laws.Calls.{backward_parts}
 use Rattle.dt_pair.proofs.Normals.{parts_same}
 use Rattle.dt_pair.proofs.Narrowed.{backward_width}
 use Rattle.dt_sets.specs.Triple.{pair_of}
-use Rattle.dt_sets.specs.TripleLaws.Calls.{at_pair}
+use Rattle.dt_sets.specs.declared.Triple.{Triple}
+use Rattle.dt_sets.specs.TripleLaws.Calls.{at_pair, backward_is}
+use Rattle.dt_sets.proofs.OneBits.{bits_width}
 use Rattle.dt_sets.proofs.Unlisted.{narrowed_backward, target_width}
 use Rattle.dt_sets.proofs.triple_domain.TripleDomain.narrowed_backward.Goals as goal
+
+pub narrowed_to_bits-requires-clause-width : goal.narrowed_to_bits-requires-clause-width
+narrowed_to_bits-requires-clause-width c = ap (λ (w : Width). w.0) (c.requires.width ∙ sym (backward_is c.args.op c.args.place c.args.outcome.now c.args.a.now c.args.b.now c.args.c.now c.requires.fitting).1
+    ∙ ap (λ (t : Triple). t.known.width) c.in-Some.ensures ∙ bits_width c.in-Some.told)
 
 pub backward-known-requires : goal.backward-known-requires
 backward-known-requires c = at_known c.args.op c.args.place (pair_of c.args.outcome.now) (pair_of c.args.a.now) (pair_of c.args.b.now) (pair_of c.args.c.now) (at_pair c.args.op c.args.place c.args.outcome.now c.args.a.now c.args.b.now c.args.c.now c.requires.fitting)
