@@ -1,27 +1,27 @@
 -- A Triple of one bit is told by which of 0 and 1 it holds, and each step between such Triples is seen by trying all of them.
 use Rattle.std.proofs.Common.{◌≡◌, ℕ, zero, suc, ◌^◌, ◌<◌, Bool, true, false, ◌&&◌, ◌||◌, not, eqb, List, [], ◌∷◌, Option, Some, None, refl, sym, ap, ◌∙◌, subst, ⊎_elim, arith}
 use Rattle.std.specs.Prelude.{MatchOption}
-use Rattle.std.proofs.lemmas.Bool.{cases_Bool, false_from_ne_true, and_parts, eqb-true, false≢true, true≢false}
+use Rattle.std.proofs.lemmas.Bool.{cases_Bool, cond-false, leb-true, false_from_ne_true, and_parts, eqb-true, false≢true, true≢false}
 use Rattle.dt_bits.specs.Bits.{IsWidth, width, bit, number_of, some_below}
 use Rattle.dt_bits.specs.Ops.{arity_of, fits_at, width_of}
 use Rattle.dt_bits.specs.declared.op.Op.{Op}
 use Rattle.dt_bits.specs.declared.op.Op.TheVariants.{Const, Not, And, Or, Xor, Add, Sub, Slice, Concat, SignExt, Shl, Shr, Eq, Ltu, Ite}
 use Rattle.dt_bits.specs.declared.value.Width.{Width}
 use Rattle.dt_domain.specs.Domain.{Fitting, FittingAt, IsNarrowed}
-use Rattle.dt_pair.specs.Pair.{normal}
+use Rattle.dt_pair.specs.Pair.{normal, pair_full}
 use Rattle.dt_pair.specs.Ends.{least_candidate, greatest_candidate}
 use Rattle.dt_sets.specs.declared.Triple.{Triple}
 use Rattle.dt_sets.specs.declared.one_bit.Held.{Held}
 use Rattle.dt_sets.specs.declared.one_bit.Table.{Table}
 use Rattle.dt_lemmas.proofs.Equalities.{two, three}
 use Rattle.dt_sets.specs.Lists.{has, below}
-use Rattle.dt_sets.specs.Sets.{is_narrow}
+use Rattle.dt_sets.specs.Sets.{is_narrow, listing, everything, sets_full}
 use Rattle.dt_sets.specs.Laws.Form.{AreListed}
-use Rattle.dt_sets.specs.Triple.{IsTriple, triple_holds, of_numbers, reduced, triple_full, triple_one, triple_meet, triple_forward, triple_backward}
+use Rattle.dt_sets.specs.Triple.{IsTriple, beside, triple_holds, of_numbers, reduced, triple_full, triple_one, triple_meet, triple_forward, triple_backward}
 use Rattle.dt_sets.specs.TripleOps.{triple_ops}
 use Rattle.dt_sets.specs.TripleLaws.{triple_laws, triple_eq, triple_exact}
 use Rattle.dt_sets.specs.TripleLaws.Numbers.{numbers_hold, numbers_is, numbers_width}
-use Rattle.dt_sets.specs.TripleLaws.Reduced.{canonical}
+use Rattle.dt_sets.specs.TripleLaws.Reduced.{reduced_many, canonical}
 use Rattle.dt_sets.specs.OneBit.{bits_list, of_bits, held, zero_alone, both_hold, table_of, bits_forward, bits_first, bits_second}
 
 -- ---- what a Triple of one bit is
@@ -354,3 +354,20 @@ one_bits = refl
 -- one of one bit is as wide
 pub bits_width : (h : Held) → (of_bits h).known.width ≡ width 1
 bits_width h = numbers_width (width 1) (bits_list h.zero h.one)
+
+-- ---- all numbers of a width
+
+full_narrow : (n : ℕ) → IsWidth n → is_narrow (width n) ≡ true → triple_full (width n) ≡ beside (pair_full (width n)) (sets_full (width n))
+unfolding reduced normal below number_of bit some_below least_candidate greatest_candidate
+full_narrow zero h e = absurd (omega (arith, h.0))
+full_narrow (suc zero) h e = refl
+full_narrow (suc (suc zero)) h e = refl
+full_narrow (suc (suc (suc zero))) h e = refl
+full_narrow (suc (suc (suc (suc n)))) h e = absurd (omega (arith, leb-true (suc (suc (suc (suc n)))) 3 e))
+
+pub full_beside : (w : Width) → IsWidth w.0 → triple_full w ≡ beside (pair_full w) (sets_full w)
+full_beside w h = ⊎_elim
+    (λ (e : is_narrow w ≡ true). full_narrow w.0 h e)
+    (λ (e : is_narrow w ≡ false). let s = cond-false (is_narrow w) (listing w (below (2 ^ w.0))) (everything w) e in
+    ap (reduced (pair_full w)) s ∙ reduced_many (pair_full w) (everything w) refl ∙ ap (beside (pair_full w)) (sym s))
+    (cases_Bool (is_narrow w))

@@ -20,9 +20,12 @@ impl Domain for Triple {
 
     #[inline(always)]
     fn full(width: Width) -> Triple {
-        let pair = Pair::full(width);
-        let sets = Sets::full(width);
-        Triple::reduced(&pair, &sets)
+        let Pair { known, range } = Pair::full(width);
+        Triple {
+            known,
+            range,
+            sets: Sets::full(width),
+        }
     }
 
     #[inline(always)]
