@@ -4,3 +4,5 @@ pub mod Gathers
 pub mod Alike
 pub mod Choosing
 pub mod Triples
+pub mod Unlisted
+pub mod OneBits

@@ -7,4 +7,5 @@ pub mod Ops
 pub mod Laws
 pub mod Triple
 pub mod TripleOps
+pub mod OneBit
 pub mod TripleLaws

@@ -57,7 +57,7 @@ known_eq a b = eqb a.mask b.mask && (eqb a.value b.value && (beq a.empty b.empty
 abbrev range_eq : Range → Range → Bool
 range_eq a b = eqb a.lo b.lo && (eqb a.hi b.hi && eqb a.width.0 b.width.0)
 
-abbrev triple_eq : Triple → Triple → Bool
+abbrev pub triple_eq : Triple → Triple → Bool
 triple_eq a b = known_eq a.known b.known && (range_eq a.range b.range && sets_eq a.sets b.sets)
 
 pub triple_exact : IsExact triple_eq

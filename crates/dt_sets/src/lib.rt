@@ -12,7 +12,10 @@
 //! that hold the same numbers are the same data, so `==` compares sets; so are two Triples of which both
 //! list their numbers or neither does. `Triple::normal` holds exactly what its parts hold. Sets by
 //! themselves aren't a deciding domain: a bit that is set becomes known only where numbers are listed.
-//! Only tested: that the definitions say what is meant.
+//! A step into a Triple (`narrowed_forward`, `narrowed_backward`) is that of its Pair where an operand
+//! lists no number, and between single bits it goes by which of 0 and 1 is held.
+//! Only tested: what a step costs, which `dt_box_bench` measures, and that the definitions say what is
+//! meant: `dt_domain_table` compares 1,650 answers with ones that were worked out outside.
 #![tactic(auto)]
 
 use dt_bits::Width;
@@ -22,9 +25,11 @@ use dt_range::Range;
 mod gather;
 mod listing;
 mod narrow;
+mod one_bit;
 mod partners;
 mod selections;
 mod sets_domain;
+mod steps;
 mod triple_domain;
 mod triple_normal;
 

@@ -169,7 +169,7 @@ fn is_none(op: Op, outcome: &Sets, a: &Sets, b: &Sets, c: &Sets) -> bool
 
 /// Whether the result or a used operand doesn't list its numbers.
 #[inline(always)]
-fn is_unlisted(op: Op, outcome: &Sets, a: &Sets, b: &Sets, c: &Sets) -> bool
+pub fn is_unlisted(op: Op, outcome: &Sets, a: &Sets, b: &Sets, c: &Sets) -> bool
     ensures { result ≡ (outcome.now.many || some_used op a.now.many b.now.many c.now.many) }
 {
     let used = is_some_used(op, a.many, b.many, c.many);

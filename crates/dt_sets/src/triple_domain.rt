@@ -1,6 +1,8 @@
 //! Triple as a domain: a Pair and Sets, part by part, and then normalised.
+use crate::one_bit::{told_backward, told_forward};
+use crate::partners::is_unlisted;
 use crate::{Sets, Triple};
-use dt_bits::{Bv, Op, Width};
+use dt_bits::{Bv, Op, Width, is_some_used};
 use dt_domain::{Deciding, Domain};
 use dt_known::Known;
 use dt_pair::Pair;
@@ -18,9 +20,12 @@ impl Domain for Triple {
 
     #[inline(always)]
     fn full(width: Width) -> Triple {
-        let pair = Pair::full(width);
-        let sets = Sets::full(width);
-        Triple::reduced(&pair, &sets)
+        let Pair { known, range } = Pair::full(width);
+        Triple {
+            known,
+            range,
+            sets: Sets::full(width),
+        }
     }
 
     #[inline(always)]
@@ -96,6 +101,42 @@ impl Domain for Triple {
         let range = Range::backward(op, place, &outcome.range, &a.range, &b.range, &c.range);
         let sets = Sets::backward(op, place, &outcome.sets, &a.sets, &b.sets, &c.sets);
         Triple::normal(&known, &range, &sets)
+    }
+
+    #[inline(always)]
+    fn narrowed_forward(&self, op: Op, a: &Triple, b: &Triple, c: &Triple) -> Option<Triple> {
+        if let Some(told) = told_forward(op, a, b, c) {
+            return self.narrowed_to_bits(told);
+        }
+        if is_some_used(op, a.sets.many, b.sets.many, c.sets.many) {
+            let known = Known::forward(op, &a.known, &b.known, &c.known);
+            let range = Range::forward(op, &a.range, &b.range, &c.range);
+            self.narrowed_by_parts(&known, &range)
+        } else {
+            self.narrowed_forward_listed(op, a, b, c)
+        }
+    }
+
+    #[inline(always)]
+    fn narrowed_backward(
+        &self,
+        op: Op,
+        place: u32,
+        outcome: &Triple,
+        a: &Triple,
+        b: &Triple,
+        c: &Triple,
+    ) -> Option<Triple> {
+        if let Some(told) = told_backward(op, place, outcome, a, b, c) {
+            return self.narrowed_to_bits(told);
+        }
+        if is_unlisted(op, &outcome.sets, &a.sets, &b.sets, &c.sets) {
+            let known = Known::backward(op, place, &outcome.known, &a.known, &b.known, &c.known);
+            let range = Range::backward(op, place, &outcome.range, &a.range, &b.range, &c.range);
+            self.narrowed_by_parts(&known, &range)
+        } else {
+            self.narrowed_backward_listed(op, place, outcome, a, b, c)
+        }
     }
 }
 

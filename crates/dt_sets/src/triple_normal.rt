@@ -15,7 +15,7 @@ use dt_range::Range;
 
 /// The Triple that holds nothing: all parts are empty.
 #[inline(always)]
-fn nothing(width: Width) -> Triple
+pub fn nothing(width: Width) -> Triple
     ensures { result ≡ no_triple width }
 {
     Triple {

@@ -158,7 +158,7 @@ fitting_sets op a b c f = record {
   fits = sym (three (fits_at op) (bits_are a f.a_is) (bits_are b f.b_is) (bits_are c f.c_is)) ∙ f.fits;
 }
 
-result_alike : (op : Op) (a b c : Triple) → Fitting triple_ops op a b c → result_width triple_ops op a b c ≡ result_width sets_ops op a.sets b.sets c.sets
+pub result_alike : (op : Op) (a b c : Triple) → Fitting triple_ops op a b c → result_width triple_ops op a b c ≡ result_width sets_ops op a.sets b.sets c.sets
 result_alike op a b c f = three (λ x y z. width (width_of op x y z)) (bits_are a f.a_is) (bits_are b f.b_is) (bits_are c f.c_is)
 
 value_alike : (op : Op) (a b c : Triple) (x y z : ℕ) → Fitting triple_ops op a b c → value_at triple_ops op a b c x y z ≡ value_at sets_ops op a.sets b.sets c.sets x y z
@@ -220,7 +220,7 @@ at_sets op k r a b c f = record {
 }
 
 -- the widths of the operand at a place
-operand_widths : (k : ℕ) (a b c : Triple) → IsTriple a → IsTriple b → IsTriple c
+pub operand_widths : (k : ℕ) (a b c : Triple) → IsTriple a → IsTriple b → IsTriple c
     → ((operand k (pair_of a) (pair_of b) (pair_of c)).known.width ≡ (operand k a b c).known.width) × ((operand k a.sets b.sets c.sets).width ≡ (operand k a b c).known.width)
 operand_widths zero a b c p q r = (refl, sym p.widths)
 operand_widths (suc zero) a b c p q r = (refl, sym q.widths)
