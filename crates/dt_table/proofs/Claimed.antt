@@ -143,7 +143,7 @@ some_there None P h = absurd h
 some_there (Some x) P h = refl
 
 -- the forms of a demand hold exactly where the access meets it
-demand_tells : (v : Valuation) (d : ModelData) (r : Requests) (k : ℕ) (a : AccessWish) (os : List Out) (demand : Demand) → AreNodes v d os → IsDemand d demand
+pub demand_tells : (v : Valuation) (d : ModelData) (r : Requests) (k : ℕ) (a : AccessWish) (os : List Out) (demand : Demand) → AreNodes v d os → IsDemand d demand
     → Tells v (demand_forms d (access_of d r k a) os demand) (meets (told_made v d r k a os) demand)
 demand_tells v d r k a os EndDone h o =
     let end = (told v (steps d) os 0).end in

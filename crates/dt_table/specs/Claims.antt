@@ -1,5 +1,5 @@
 -- What is claimed of accesses, as forms over the terms of their nodes.
-use Rattle.std.specs.Prelude.{ℕ, ◌==◌, Bool, true, false, not, ◌&&◌, if◌then◌else◌, List, [], ◌∷◌, ◌++◌, map}
+use Rattle.std.specs.Prelude.{ℕ, ◌==◌, Bool, true, false, not, ◌&&◌, if◌then◌else◌, List, [], ◌∷◌}
 use Rattle.dt_model.specs.ModelData.{ActData, read, fault, done}
 use Rattle.dt_table.specs.declared.out.Out.{Out}
 use Rattle.dt_forms.specs.Forms.{Form, term, both_of, implies, same_of}
@@ -32,10 +32,6 @@ ends_only test _ _ = []
 
 abbrev pub pair_form : Out → Out → Form
 pair_form a b = implies (both_of (both_of (term a.by_then) (term b.by_then)) (same_of (term a.value) (term b.value))) (same_of (term a.word) (term b.word))
-
-abbrev pub pair_forms : List Out → List Form
-pair_forms [] = []
-pair_forms (o ∷ os) = map (pair_form o) os ++ pair_forms os
 
 -- what stands for the reads
 abbrev pub reads_of : List ActData → List Out → List Out
