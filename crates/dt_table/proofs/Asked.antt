@@ -31,7 +31,7 @@ use Rattle.dt_table.specs.Table.{access_of, list_access, wish_forms}
 use Rattle.dt_table.specs.Told.{told}
 use Rattle.dt_table.specs.Ways.{asks, side_asks, page_asks, link_asks, demands_of, all_asks, access_ways}
 use Rattle.dt_table.proofs.Claimed.{HaveDemands, demand_tells}
-use Rattle.dt_table.proofs.Gone.{Gone}
+use Rattle.dt_reach.proofs.Gone.{Gone}
 use Rattle.dt_table.proofs.Linked.{nodes_at}
 use Rattle.dt_table.proofs.Opened.{run_gone}
 use Rattle.dt_table.proofs.Quantities.{told_made}

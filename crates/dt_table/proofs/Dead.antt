@@ -11,15 +11,15 @@ use Rattle.dt_forms.specs.Meaning.{Valuation, is_one}
 use Rattle.dt_forms.specs.Forms.{Form, HasForm, HaveForms, term, form_value}
 use Rattle.dt_forms.specs.Claims.{Hold}
 use Rattle.dt_table.specs.declared.out.Out.{Out}
-use Rattle.dt_table.specs.declared.ways.Ways.{Ways}
+use Rattle.dt_reach.specs.declared.ways.Ways.{Ways}
 use Rattle.dt_table.specs.Extras.{dead_forms, sure_forms, extras_of, all_extras}
 use Rattle.dt_table.specs.Links.{outs_of}
 use Rattle.dt_table.specs.Outs.{out_at}
-use Rattle.dt_table.specs.Reach.{is_live, none_pass}
+use Rattle.dt_reach.specs.Reach.{is_live, none_pass}
 use Rattle.dt_table.specs.Told.{told}
 use Rattle.dt_table.specs.Ways.{access_ways}
 use Rattle.dt_table.proofs.Asked.{AreAsked, access_gone}
-use Rattle.dt_table.proofs.Gone.{Gone, come_live, come_sure}
+use Rattle.dt_reach.proofs.Gone.{Gone, come_live, come_sure}
 use Rattle.dt_table.proofs.Linked.{nodes_at}
 use Rattle.dt_table.proofs.Told.{AreNodes}
 use Rattle.dt_table.proofs.Visits.{visited, away_at}

@@ -13,7 +13,7 @@ use Rattle.dt_request.specs.declared.list.Requests.{Requests}
 use Rattle.dt_forms.specs.Forms.{Form}
 use Rattle.dt_forms.proofs.Fine.{forms_size, size_append}
 use Rattle.dt_table.specs.declared.out.Out.{Out}
-use Rattle.dt_table.specs.declared.ways.Ways.{Ways}
+use Rattle.dt_reach.specs.declared.ways.Ways.{Ways}
 use Rattle.dt_table.specs.Passing.{Access}
 use Rattle.dt_table.specs.Claims.{ends_done, ends_only, pair_form, reads_of}
 use Rattle.dt_table.specs.Apart.{Sized, apart_form, pages_at, tables_at}

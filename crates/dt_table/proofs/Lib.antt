@@ -20,7 +20,6 @@ pub mod FineTable
 pub mod FineTrees
 pub mod FineWalks
 pub mod Flagged
-pub mod Gone
 pub mod Kept
 pub mod Linked
 pub mod ListForms

@@ -17,7 +17,7 @@ use Rattle.dt_forms.specs.Meaning.{Valuation, flag, is_one}
 use Rattle.dt_forms.specs.Forms.{Form, form_value}
 use Rattle.dt_forms.specs.Claims.{Hold}
 use Rattle.dt_table.specs.declared.out.Out.{Out}
-use Rattle.dt_table.specs.declared.ways.Ways.{Ways}
+use Rattle.dt_reach.specs.declared.ways.Ways.{Ways}
 use Rattle.dt_table.specs.Passing.{Access}
 use Rattle.dt_table.specs.Claims.{ends_done, ends_only, pair_form}
 use Rattle.dt_table.specs.Apart.{Sized, apart_form, pages_at}
@@ -25,7 +25,7 @@ use Rattle.dt_table.specs.Kept.{kept_form, kept_forms}
 use Rattle.dt_table.specs.Links.{outs_of, one_page, page_if, pages_forms, access_pages, link_forms}
 use Rattle.dt_table.specs.Outs.{out_at}
 use Rattle.dt_table.specs.Pairs.{pair_if, pair_forms, apart_if, apart_forms}
-use Rattle.dt_table.specs.Reach.{is_marked, ahead_of, is_live}
+use Rattle.dt_reach.specs.Reach.{is_marked, ahead_of, is_live}
 use Rattle.dt_table.specs.Spots.{Spot, spot_at, can_meet, only_if, read_spots, page_spots, all_reads, all_pages}
 use Rattle.dt_table.specs.Table.{list_access, wish_forms, page_forms, keep_forms, list_forms, claim_forms}
 use Rattle.dt_table.specs.Told.{told}
@@ -33,7 +33,7 @@ use Rattle.dt_table.specs.Ways.{access_ways}
 use Rattle.dt_table.proofs.Asked.{AreAsked, access_gone}
 use Rattle.dt_table.proofs.Every.{every_pair, every_apart, every_kept, every_page, every_link, every_block, every_keep, every_list, every_claim, pages_in, tables_in, reads_among, of_spot, out_of, pages_spotted, tables_spotted, all_pages_spotted, all_tables_spotted, all_reads_spotted}
 use Rattle.dt_table.proofs.Flagged.{AllOuts, IsFlagged, is_flag}
-use Rattle.dt_table.proofs.Gone.{Gone, come_ahead, come_live}
+use Rattle.dt_reach.proofs.Gone.{Gone, come_ahead, come_live}
 use Rattle.dt_table.proofs.Kept.{kept_value}
 use Rattle.dt_table.proofs.Linked.{nodes_at, one_page_value}
 use Rattle.dt_table.proofs.Pages.{AreFit, block_of, apart_value, then_of}

@@ -11,7 +11,6 @@ pub mod Numbers
 pub mod Outs
 pub mod Pairs
 pub mod Passing
-pub mod Reach
 pub mod Sizes
 pub mod Spots
 pub mod Table

@@ -5,9 +5,9 @@ use Rattle.dt_model.specs.Faults.{steps}
 use Rattle.dt_request.specs.declared.list.Requests.{Requests}
 use Rattle.dt_forms.specs.Forms.{Form}
 use Rattle.dt_table.specs.declared.out.Out.{Out}
-use Rattle.dt_table.specs.declared.ways.Ways.{Ways}
+use Rattle.dt_reach.specs.declared.ways.Ways.{Ways}
 use Rattle.dt_table.specs.Apart.{Sized}
-use Rattle.dt_table.specs.Reach.{is_marked, ahead_of, is_live}
+use Rattle.dt_reach.specs.Reach.{is_marked, ahead_of, is_live}
 use Rattle.dt_table.specs.Ways.{access_ways}
 
 -- a node of the walk of an access: whether the node is live, the nodes to which walks can come from there, and what stands for it

@@ -13,7 +13,7 @@ use Rattle.dt_request.specs.declared.list.Quantity.TheVariants.{Reg, Input, Word
 use Rattle.dt_request.specs.declared.list.Requests.{Requests}
 use Rattle.dt_request.specs.declared.list.Side.{Side}
 use Rattle.dt_table.specs.Claims.{is_end, ends_done, ends_fault, ends_page}
-use Rattle.dt_table.specs.declared.ways.Ways.{Ways}
+use Rattle.dt_reach.specs.declared.ways.Ways.{Ways}
 
 -- ---- what is asked of where a walk goes
 

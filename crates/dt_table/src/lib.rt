@@ -9,10 +9,8 @@
 
 mod faithful;
 mod out;
-mod ways;
 
 pub use faithful::{
     images_are_solutions, lists_are_problems, solutions_are_images, solutions_are_memories,
 };
 pub use out::Out;
-pub use ways::Ways;
