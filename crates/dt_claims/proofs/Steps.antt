@@ -10,7 +10,8 @@ use Rattle.dt_build.specs.Building.{demanded}
 use Rattle.dt_build.proofs.Demanded.{demanded_none}
 use Rattle.dt_table.specs.declared.out.Out.{Out}
 use Rattle.dt_table.specs.Apart.{pages_at, tables_at}
-use Rattle.dt_table.specs.Claims.{reads_of, is_end, ends_only}
+use Rattle.dt_table.specs.Claims.{reads_of, ends_only}
+use Rattle.dt_ways.specs.Ends.{is_end}
 use Rattle.dt_claims.specs.Steps.{page_at, table_at, read_at, end_forms}
 
 -- ---- one node, and then the others

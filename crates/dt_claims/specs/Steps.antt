@@ -4,7 +4,7 @@ use Rattle.dt_model.specs.ModelData.{ActData, read, done}
 use Rattle.dt_forms.specs.Forms.{Form, term}
 use Rattle.dt_table.specs.declared.out.Out.{Out}
 use Rattle.dt_table.specs.Apart.{Sized}
-use Rattle.dt_table.specs.Claims.{is_end}
+use Rattle.dt_ways.specs.Ends.{is_end}
 
 -- the result, with its page
 abbrev pub page_at : ActData → Out → List Sized

@@ -22,14 +22,15 @@ use Rattle.dt_forms.specs.Meaning.{Valuation, is_one}
 use Rattle.dt_forms.specs.Forms.{Form, form_value}
 use Rattle.dt_forms.specs.Claims.{Hold}
 use Rattle.dt_table.specs.declared.out.Out.{Out}
-use Rattle.dt_table.specs.Claims.{ends_done, ends_only}
+use Rattle.dt_table.specs.Claims.{ends_only}
+use Rattle.dt_ways.specs.Ends.{ends_done}
 use Rattle.dt_table.specs.Apart.{Sized, apart_form}
 use Rattle.dt_table.specs.Demands.{demand_forms}
 use Rattle.dt_table.specs.Links.{outs_of, side_at, one_page, pages_forms, page_if, access_pages, link_forms}
 use Rattle.dt_table.specs.Spots.{Spot}
 use Rattle.dt_table.specs.Table.{access_of, list_access, wish_forms}
 use Rattle.dt_table.specs.Told.{told}
-use Rattle.dt_table.specs.Ways.{asks, side_asks, page_asks, link_asks, demands_of, all_asks, access_ways}
+use Rattle.dt_ways.specs.Ways.{asks, side_asks, page_asks, link_asks, demands_of, all_asks, access_ways}
 use Rattle.dt_table.proofs.Claimed.{HaveDemands, demand_tells}
 use Rattle.dt_reach.proofs.Gone.{Gone}
 use Rattle.dt_table.proofs.Linked.{nodes_at}

@@ -23,7 +23,7 @@ use Rattle.dt_forms.specs.Forms.{term}
 use Rattle.dt_forms.proofs.Tells.{Tells, one_tells, TellAll, none_tell, tell_as, many_tell, each_tells}
 use Rattle.dt_table.specs.declared.out.Out.{Out}
 use Rattle.dt_table.specs.Told.{told}
-use Rattle.dt_table.specs.Claims.{ends_done, ends_fault, ends_page}
+use Rattle.dt_ways.specs.Ends.{ends_done, ends_fault, ends_page}
 use Rattle.dt_table.specs.Demands.{is_masked_form, is_within_form, quantity_width, demand_forms}
 use Rattle.dt_table.specs.Table.{regs_at, inputs_at, access_of, rule_named, wish_forms}
 use Rattle.dt_table.specs.Images.{bits_from, contexts_told, accesses_told}

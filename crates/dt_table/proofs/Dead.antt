@@ -17,7 +17,7 @@ use Rattle.dt_table.specs.Links.{outs_of}
 use Rattle.dt_table.specs.Outs.{out_at}
 use Rattle.dt_reach.specs.Reach.{is_live, none_pass}
 use Rattle.dt_table.specs.Told.{told}
-use Rattle.dt_table.specs.Ways.{access_ways}
+use Rattle.dt_ways.specs.Ways.{access_ways}
 use Rattle.dt_table.proofs.Asked.{AreAsked, access_gone}
 use Rattle.dt_reach.proofs.Gone.{Gone, come_live, come_sure}
 use Rattle.dt_table.proofs.Linked.{nodes_at}

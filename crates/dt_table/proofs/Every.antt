@@ -15,13 +15,14 @@ use Rattle.dt_forms.proofs.Fine.{forms_size, size_append}
 use Rattle.dt_table.specs.declared.out.Out.{Out}
 use Rattle.dt_reach.specs.declared.ways.Ways.{Ways}
 use Rattle.dt_table.specs.Passing.{Access}
-use Rattle.dt_table.specs.Claims.{ends_done, ends_only, pair_form, reads_of}
+use Rattle.dt_table.specs.Claims.{ends_only, pair_form, reads_of}
+use Rattle.dt_ways.specs.Ends.{ends_done}
 use Rattle.dt_table.specs.Apart.{Sized, apart_form, pages_at, tables_at}
 use Rattle.dt_table.specs.Kept.{kept_form, kept_forms}
 use Rattle.dt_table.specs.Links.{outs_of, side_at, reads_forms, one_block, apart_blocks, one_cell, one_page, page_if, pages_forms, access_pages, link_forms}
 use Rattle.dt_table.specs.Pairs.{pair_if, pair_forms, apart_if, apart_forms}
 use Rattle.dt_table.specs.Spots.{Spot, can_meet, only_if, read_spots, page_spots, all_reads, all_pages}
-use Rattle.dt_table.specs.Ways.{access_ways}
+use Rattle.dt_ways.specs.Ways.{access_ways}
 use Rattle.dt_table.specs.Table.{list_access, wish_forms, page_forms, keep_forms, list_forms, claim_forms}
 
 -- ---- all pairs

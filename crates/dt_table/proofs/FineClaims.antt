@@ -25,7 +25,8 @@ use Rattle.dt_forms.specs.Forms.{Form, term, number, form1, not_of, both_of, imp
 use Rattle.dt_forms.proofs.Fine.{IsSized, IsFine, AreFine, term_fine, number_fine, not_fine, and_fine, both_fine, or_fine, implies_fine, same_fine, less_fine, shr_fine, fine_map, fine_append, fine_flat}
 use Rattle.dt_table.specs.declared.out.Out.{Out}
 use Rattle.dt_table.specs.Passing.{Access}
-use Rattle.dt_table.specs.Claims.{is_end, ends_done, ends_fault, ends_page, ends_only, pair_form, reads_of}
+use Rattle.dt_table.specs.Claims.{ends_only, pair_form, reads_of}
+use Rattle.dt_ways.specs.Ends.{is_end, ends_done, ends_fault, ends_page}
 use Rattle.dt_table.specs.Apart.{Sized, same_block, apart_form, pages_at, tables_at}
 use Rattle.dt_table.specs.Kept.{touches_form, kept_form}
 use Rattle.dt_table.specs.Demands.{result_form, quantity_forms, is_masked_form, is_within_form, quantity_width, demand_forms}

@@ -29,7 +29,7 @@ use Rattle.dt_table.specs.Demands.{demand_forms}
 use Rattle.dt_table.specs.Links.{link_forms}
 use Rattle.dt_table.specs.Table.{choices, regs_at, inputs_at, words_at, access_of, first_state, rule_named, context_rules, access_rules, Built, with_forms, contexts_built, access_built, accesses_built, wish_forms, page_forms, keep_forms, list_forms, claim_forms, list_access}
 use Rattle.dt_reach.specs.declared.ways.Ways.{Ways}
-use Rattle.dt_table.specs.Ways.{access_ways}
+use Rattle.dt_ways.specs.Ways.{access_ways}
 use Rattle.dt_reach.specs.Reach.{is_live, none_pass}
 use Rattle.dt_table.specs.Extras.{dead_forms, sure_forms, extras_of, all_extras}
 use Rattle.dt_table.proofs.Accesses.{length_outs}

@@ -20,7 +20,8 @@ use Rattle.dt_forms.specs.Sizes.{form_size}
 use Rattle.dt_forms.proofs.Fine.{forms_size, size_append, size_map, size_flat, mul_more}
 use Rattle.dt_table.specs.declared.out.Out.{Out}
 use Rattle.dt_table.specs.Passing.{Access}
-use Rattle.dt_table.specs.Claims.{is_end, ends_done, ends_fault, ends_page, ends_only, pair_form, reads_of}
+use Rattle.dt_table.specs.Claims.{ends_only, pair_form, reads_of}
+use Rattle.dt_ways.specs.Ends.{is_end, ends_done, ends_fault, ends_page}
 use Rattle.dt_table.specs.Apart.{Sized, same_block, apart_form, pages_at, tables_at}
 use Rattle.dt_table.specs.Kept.{touches_form, kept_form}
 use Rattle.dt_table.specs.Demands.{result_form, quantity_forms, is_masked_form, is_within_form, quantity_width, demand_forms}

@@ -33,7 +33,8 @@ use Rattle.dt_forms.proofs.Tells.{Tells, more_tell, one_tells, tells_as, both_te
 use Rattle.dt_table.specs.declared.out.Out.{Out}
 use Rattle.dt_table.specs.Passing.{Access}
 use Rattle.dt_table.specs.Told.{told}
-use Rattle.dt_table.specs.Claims.{ends_done, ends_only}
+use Rattle.dt_table.specs.Claims.{ends_only}
+use Rattle.dt_ways.specs.Ends.{ends_done}
 use Rattle.dt_table.specs.Apart.{Sized, same_block, apart_form, pages_at}
 use Rattle.dt_table.specs.Links.{outs_of, side_at, reads_forms, one_block, apart_blocks, one_cell, one_page}
 use Rattle.dt_table.proofs.Every.{every_page, every_link}

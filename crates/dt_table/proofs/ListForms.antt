@@ -17,7 +17,8 @@ use Rattle.dt_request.specs.declared.list.Quantity.TheVariants.{Reg, Input, Word
 use Rattle.dt_forms.specs.Forms.{Form, HasForm, HaveForms, term, form1, not_of, both_of, implies, same_of}
 use Rattle.dt_table.specs.declared.out.Out.{Out}
 use Rattle.dt_table.specs.Passing.{Access}
-use Rattle.dt_table.specs.Claims.{is_end, ends_done, ends_fault, ends_page, ends_only, pair_form}
+use Rattle.dt_table.specs.Claims.{ends_only, pair_form}
+use Rattle.dt_ways.specs.Ends.{is_end, ends_done, ends_fault, ends_page}
 use Rattle.dt_table.specs.Apart.{Sized, same_block, apart_form, pages_at}
 use Rattle.dt_table.specs.Demands.{result_form, quantity_forms, is_masked_form, is_within_form, quantity_width, demand_forms}
 use Rattle.dt_table.specs.Links.{outs_of, side_at, one_block, one_page}

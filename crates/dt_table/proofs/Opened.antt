@@ -11,8 +11,8 @@ use Rattle.dt_request.specs.declared.list.Demand.TheVariants.{Via, Avoid, Take, 
 use Rattle.dt_walk.specs.Walks.{RunData}
 use Rattle.dt_satisfy.specs.Demands.{Made, meets, visits, leaves}
 use Rattle.dt_reach.specs.declared.ways.Ways.{Ways}
-use Rattle.dt_table.specs.Claims.{is_end}
-use Rattle.dt_table.specs.Ways.{edge_to, leads_past, differ, bars, open_edge, ends_as, ways_of, all_ways}
+use Rattle.dt_ways.specs.Ends.{is_end}
+use Rattle.dt_ways.specs.Ways.{edge_to, leads_past, differ, bars, open_edge, ends_as, ways_of, all_ways}
 use Rattle.dt_reach.proofs.Gone.{Step, MayEnd, Gone}
 use Rattle.dt_table.proofs.Told.{done_same, fault_same, page_same}
 use Rattle.dt_table.proofs.Walked.{Hop, Last, Walked}

@@ -21,7 +21,8 @@ use Rattle.dt_forms.specs.Meaning.{Valuation, flag, is_one}
 use Rattle.dt_table.specs.declared.out.Out.{Out}
 use Rattle.dt_table.specs.Passing.{walk_placed}
 use Rattle.dt_table.specs.Told.{told, told_step, made_if}
-use Rattle.dt_table.specs.Claims.{ends_done, ends_fault, ends_page, reads_of}
+use Rattle.dt_table.specs.Claims.{reads_of}
+use Rattle.dt_ways.specs.Ends.{ends_done, ends_fault, ends_page}
 use Rattle.dt_table.specs.Table.{regs_at, inputs_at, words_at, access_of, first_state}
 use Rattle.dt_table.specs.Images.{bits_from, reads_told}
 use Rattle.dt_table.proofs.Remembered.{Remembers, Says, walk_said}

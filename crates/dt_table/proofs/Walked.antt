@@ -12,8 +12,8 @@ use Rattle.dt_walk.specs.declared.run.SideTaken.{SideTaken}
 use Rattle.dt_walk.specs.Meaning.{EnvData, Vars, bound, value_at}
 use Rattle.dt_walk.specs.Walks.{RunData, visit, ended, read_of}
 use Rattle.dt_satisfy.specs.Demands.{visits, leaves, is_side}
-use Rattle.dt_table.specs.Claims.{is_end}
-use Rattle.dt_table.specs.Ways.{edge_to}
+use Rattle.dt_ways.specs.Ends.{is_end}
+use Rattle.dt_ways.specs.Ways.{edge_to}
 use Rattle.dt_table.proofs.Ends.{EndsBy}
 use Rattle.dt_table.proofs.Oracle.{acted_with, walk_with}
 

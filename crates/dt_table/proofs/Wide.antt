@@ -19,7 +19,8 @@ use Rattle.dt_forms.specs.Claims.{Hold}
 use Rattle.dt_table.specs.declared.out.Out.{Out}
 use Rattle.dt_reach.specs.declared.ways.Ways.{Ways}
 use Rattle.dt_table.specs.Passing.{Access}
-use Rattle.dt_table.specs.Claims.{ends_done, ends_only, pair_form}
+use Rattle.dt_table.specs.Claims.{ends_only, pair_form}
+use Rattle.dt_ways.specs.Ends.{ends_done}
 use Rattle.dt_table.specs.Apart.{Sized, apart_form, pages_at}
 use Rattle.dt_table.specs.Kept.{kept_form, kept_forms}
 use Rattle.dt_table.specs.Links.{outs_of, one_page, page_if, pages_forms, access_pages, link_forms}
@@ -29,7 +30,7 @@ use Rattle.dt_reach.specs.Reach.{is_marked, ahead_of, is_live}
 use Rattle.dt_table.specs.Spots.{Spot, spot_at, can_meet, only_if, read_spots, page_spots, all_reads, all_pages}
 use Rattle.dt_table.specs.Table.{list_access, wish_forms, page_forms, keep_forms, list_forms, claim_forms}
 use Rattle.dt_table.specs.Told.{told}
-use Rattle.dt_table.specs.Ways.{access_ways}
+use Rattle.dt_ways.specs.Ways.{access_ways}
 use Rattle.dt_table.proofs.Asked.{AreAsked, access_gone}
 use Rattle.dt_table.proofs.Every.{every_pair, every_apart, every_kept, every_page, every_link, every_block, every_keep, every_list, every_claim, pages_in, tables_in, reads_among, of_spot, out_of, pages_spotted, tables_spotted, all_pages_spotted, all_tables_spotted, all_reads_spotted}
 use Rattle.dt_table.proofs.Flagged.{AllOuts, IsFlagged, is_flag}

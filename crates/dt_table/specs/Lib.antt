@@ -15,5 +15,4 @@ pub mod Sizes
 pub mod Spots
 pub mod Table
 pub mod Told
-pub mod Ways
 pub mod Words

@@ -11,11 +11,12 @@ use Rattle.dt_satisfy.specs.Links.{step_granule}
 use Rattle.dt_forms.specs.Forms.{Form, term, not_of, both_of, implies, same_of}
 use Rattle.dt_table.specs.declared.out.Out.{Out}
 use Rattle.dt_table.specs.Passing.{Access}
-use Rattle.dt_table.specs.Claims.{ends_done, ends_only}
+use Rattle.dt_table.specs.Claims.{ends_only}
+use Rattle.dt_ways.specs.Ends.{ends_done}
 use Rattle.dt_table.specs.Apart.{Sized, same_block, apart_form}
 use Rattle.dt_table.specs.Outs.{out_at}
 use Rattle.dt_table.specs.Spots.{Spot, only_if, page_spots}
-use Rattle.dt_table.specs.Ways.{access_ways}
+use Rattle.dt_ways.specs.Ways.{access_ways}
 
 -- ---- reads
 

@@ -8,7 +8,7 @@ use Rattle.dt_table.specs.declared.out.Out.{Out}
 use Rattle.dt_reach.specs.declared.ways.Ways.{Ways}
 use Rattle.dt_table.specs.Apart.{Sized}
 use Rattle.dt_reach.specs.Reach.{is_marked, ahead_of, is_live}
-use Rattle.dt_table.specs.Ways.{access_ways}
+use Rattle.dt_ways.specs.Ways.{access_ways}
 
 -- a node of the walk of an access: whether the node is live, the nodes to which walks can come from there, and what stands for it
 pub record Spot : Type 0 where

@@ -6,7 +6,8 @@ use Rattle.dt_model.specs.Faults.{steps}
 use Rattle.dt_build.specs.Building.{demanded}
 use Rattle.dt_forms.specs.Forms.{Form}
 use Rattle.dt_table.specs.Apart.{Sized, pages_at}
-use Rattle.dt_table.specs.Claims.{ends_done, ends_only}
+use Rattle.dt_table.specs.Claims.{ends_only}
+use Rattle.dt_ways.specs.Ends.{ends_done}
 use Rattle.dt_claims.specs.Relations.{page_relation_form}
 use Rattle.dt_claims.specs.Views.{sized, access_of}
 use Rattle.dt_claims.proofs.Steps.{collected}

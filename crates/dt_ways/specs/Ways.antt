@@ -12,7 +12,7 @@ use Rattle.dt_request.specs.declared.list.Quantity.{Quantity}
 use Rattle.dt_request.specs.declared.list.Quantity.TheVariants.{Reg, Input, Word, Cell, Pa}
 use Rattle.dt_request.specs.declared.list.Requests.{Requests}
 use Rattle.dt_request.specs.declared.list.Side.{Side}
-use Rattle.dt_table.specs.Claims.{is_end, ends_done, ends_fault, ends_page}
+use Rattle.dt_ways.specs.Ends.{is_end, ends_done, ends_fault, ends_page}
 use Rattle.dt_reach.specs.declared.ways.Ways.{Ways}
 
 -- ---- what is asked of where a walk goes
