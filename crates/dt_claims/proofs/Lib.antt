@@ -1,4 +1,4 @@
-pub mod Extras
+pub mod Marks
 pub mod Lengths
 pub mod Models
 pub mod Rows
