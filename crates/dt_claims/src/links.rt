@@ -290,11 +290,15 @@ fn require_link(
         }
         Link::SharePage(a, b) => {
             let relation = PageRelation::One;
-            require_pages(alloc, builder, model, requests, places, rows, relation, a, b)
+            require_pages(
+                alloc, builder, model, requests, places, rows, relation, a, b,
+            )
         }
         Link::ApartPage(a, b) => {
             let relation = PageRelation::Apart;
-            require_pages(alloc, builder, model, requests, places, rows, relation, a, b)
+            require_pages(
+                alloc, builder, model, requests, places, rows, relation, a, b,
+            )
         }
     }
 }

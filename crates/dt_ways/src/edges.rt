@@ -11,13 +11,7 @@ fn edge_to(act: &Act, by_then: bool) -> Option<u32>
     ensures { result ≡ edge_to (act_of act.now) by_then }
 {
     match act {
-        Act::Let { next, .. } => {
-            if by_then {
-                Some(*next)
-            } else {
-                None
-            }
-        }
+        Act::Let { next, .. } => { if by_then { Some(*next) } else { None } }
         Act::Read { then_to, other, .. } | Act::If { then_to, other, .. } => {
             if by_then {
                 Some(*then_to)
