@@ -1,5 +1,5 @@
+pub mod Marks
 pub mod Lengths
-pub mod Lives
 pub mod Models
 pub mod Rows
 pub mod Steps

@@ -1,6 +1,7 @@
 -- Loops over the nodes of a walk, with what stands for them.
-use Rattle.std.proofs.Common.{◌≡◌, Bool, true, false, not, ◌&&◌, cond, List, [], ◌∷◌, ◌++◌, map, length, refl, sym, ap, ◌∙◌, append_assoc, ◌⊎◌, inl, inr}
-use Rattle.std.proofs.lemmas.List.{append-nil, nil_from_length}
+use Rattle.std.proofs.Common.{◌≡◌, ℕ, suc, ◌+◌, ◌<◌, ◌≤◌, drop, get_or, arith, Bool, true, false, not, ◌&&◌, cond, List, [], ◌∷◌, ◌++◌, map, length, refl, sym, ap, ◌∙◌, append_assoc, ◌⊎◌, inl, inr}
+use Rattle.std.proofs.Math.Seq.{drop-cons}
+use Rattle.std.proofs.lemmas.List.{append-nil, nil_from_length, drop_all}
 use Rattle.dt_model.specs.declared.model.Node.{Node}
 use Rattle.dt_model.specs.ModelData.{ActData, act_of, bind, read, branch, fault, done}
 use Rattle.dt_model.specs.Flow.{steps_of}
@@ -9,9 +10,12 @@ use Rattle.dt_forms.specs.Forms.{Form, term}
 use Rattle.dt_build.specs.Building.{demanded}
 use Rattle.dt_build.proofs.Demanded.{demanded_none}
 use Rattle.dt_table.specs.declared.out.Out.{Out}
-use Rattle.dt_table.specs.Apart.{pages_at, tables_at}
-use Rattle.dt_table.specs.Claims.{reads_of, is_end, ends_only}
-use Rattle.dt_claims.specs.Steps.{page_at, table_at, read_at, end_forms}
+use Rattle.dt_table.specs.Apart.{pages_at}
+use Rattle.dt_table.specs.Claims.{ends_only}
+use Rattle.dt_reach.specs.declared.ways.Ways.{Ways}
+use Rattle.dt_table.specs.Spots.{Spot, read_spots, page_spots}
+use Rattle.dt_ways.specs.Ends.{is_end}
+use Rattle.dt_claims.specs.Steps.{page_at, read_spot, page_spot, end_forms}
 
 -- ---- one node, and then the others
 
@@ -22,19 +26,19 @@ pages_first (branch e t f) ps o os = refl
 pages_first (fault c) ps o os = refl
 pages_first (done e p) ps o os = refl
 
-pub tables_first : (p : ActData) (ps : List ActData) (o : Out) (os : List Out) → tables_at (p ∷ ps) (o ∷ os) ≡ table_at p o ++ tables_at ps os
-tables_first (bind x e n) ps o os = refl
-tables_first (read x e g t f) ps o os = refl
-tables_first (branch e t f) ps o os = refl
-tables_first (fault c) ps o os = refl
-tables_first (done e p) ps o os = refl
+pub reads_first : (ws : List Ways) (k : ℕ) (p : ActData) (ps : List ActData) (o : Out) (os : List Out) (n : ℕ) → read_spots ws k (p ∷ ps) (o ∷ os) n ≡ read_spot ws k n p o ++ read_spots ws k ps os (n + 1)
+reads_first ws k (bind x e t) ps o os n = refl
+reads_first ws k (read x e g t f) ps o os n = refl
+reads_first ws k (branch e t f) ps o os n = refl
+reads_first ws k (fault c) ps o os n = refl
+reads_first ws k (done e p) ps o os n = refl
 
-pub reads_first : (p : ActData) (ps : List ActData) (o : Out) (os : List Out) → reads_of (p ∷ ps) (o ∷ os) ≡ read_at p o ++ reads_of ps os
-reads_first (bind x e n) ps o os = refl
-reads_first (read x e g t f) ps o os = refl
-reads_first (branch e t f) ps o os = refl
-reads_first (fault c) ps o os = refl
-reads_first (done e p) ps o os = refl
+pub page_spots_first : (ws : List Ways) (k : ℕ) (p : ActData) (ps : List ActData) (o : Out) (os : List Out) (n : ℕ) → page_spots ws k (p ∷ ps) (o ∷ os) n ≡ page_spot ws k n p o ++ page_spots ws k ps os (n + 1)
+page_spots_first ws k (bind x e t) ps o os n = refl
+page_spots_first ws k (read x e g t f) ps o os n = refl
+page_spots_first ws k (branch e t f) ps o os n = refl
+page_spots_first ws k (fault c) ps o os n = refl
+page_spots_first ws k (done e p) ps o os n = refl
 
 pub ends_first : (test : ActData → Bool) (p : ActData) (ps : List ActData) (o : Out) (os : List Out) → ends_only test (p ∷ ps) (o ∷ os) ≡ end_forms test p o ++ ends_only test ps os
 ends_first test p ps o os = by_test (is_end p && not (test p))
@@ -53,21 +57,21 @@ pages_none (branch e t f ∷ ps) = refl
 pages_none (fault c ∷ ps) = refl
 pages_none (done e p ∷ ps) = refl
 
-pub tables_none : (ps : List ActData) → tables_at ps [] ≡ []
-tables_none [] = refl
-tables_none (bind x e n ∷ ps) = refl
-tables_none (read x e g t f ∷ ps) = refl
-tables_none (branch e t f ∷ ps) = refl
-tables_none (fault c ∷ ps) = refl
-tables_none (done e p ∷ ps) = refl
+pub reads_none : (ws : List Ways) (k : ℕ) (ps : List ActData) (n : ℕ) → read_spots ws k ps [] n ≡ []
+reads_none ws k [] n = refl
+reads_none ws k (bind x e t ∷ ps) n = refl
+reads_none ws k (read x e g t f ∷ ps) n = refl
+reads_none ws k (branch e t f ∷ ps) n = refl
+reads_none ws k (fault c ∷ ps) n = refl
+reads_none ws k (done e p ∷ ps) n = refl
 
-pub reads_none : (ps : List ActData) → reads_of ps [] ≡ []
-reads_none [] = refl
-reads_none (bind x e n ∷ ps) = refl
-reads_none (read x e g t f ∷ ps) = refl
-reads_none (branch e t f ∷ ps) = refl
-reads_none (fault c ∷ ps) = refl
-reads_none (done e p ∷ ps) = refl
+pub page_spots_none : (ws : List Ways) (k : ℕ) (ps : List ActData) (n : ℕ) → page_spots ws k ps [] n ≡ []
+page_spots_none ws k [] n = refl
+page_spots_none ws k (bind x e t ∷ ps) n = refl
+page_spots_none ws k (read x e g t f ∷ ps) n = refl
+page_spots_none ws k (branch e t f ∷ ps) n = refl
+page_spots_none ws k (fault c ∷ ps) n = refl
+page_spots_none ws k (done e p ∷ ps) n = refl
 
 pub ends_none : (test : ActData → Bool) (ps : List ActData) → ends_only test ps [] ≡ []
 ends_none test [] = refl
@@ -106,3 +110,28 @@ none_required p whole fs e h = sym (demanded_none p) ∙ ap (demanded p) (sym e)
 -- a list that begins without elements
 pub collected : {A B : Type 0} (f : A → B) (xs made none : List A) (whole : List B) → xs ≡ made → map f made ≡ map f none ++ whole → none ≡ [] → map f xs ≡ whole
 collected {B} f xs made none whole e h n = ap (map f) e ∙ h ∙ ap (λ l. map f l ++ whole) n
+
+-- ---- nodes by their positions
+
+-- a node of a walk is gone by, where each is named by its position
+pub spots_grown : {A : Type 0} (F : List ActData → List Out → ℕ → List A) (G : ℕ → ActData → Out → List A) → ((p : ActData) (ps : List ActData) (o : Out) (os : List Out) (n : ℕ) → F (p ∷ ps) (o ∷ os) n ≡ G n p o ++ F ps os (n + 1))
+    → (old new whole : List A) (ns : List Node) (os : List Out) (n : ℕ) (node : Node) (d : Out) → n < length ns → node ≡ get_or ns n node → n < length os
+    → new ≡ old ++ G n (act_of node.act) (get_or os n d) → old ++ F (steps_of (drop n ns)) (drop n os) n ≡ whole → new ++ F (steps_of (drop (n + 1) ns)) (drop (n + 1) os) (n + 1) ≡ whole
+spots_grown {A} F G first old new whole ns os n node d l at m e h =
+    let o = get_or os n d in
+    let next : suc n ≡ n + 1 = omega arith in
+    let here : drop n ns ≡ node ∷ drop (n + 1) ns = drop-cons ns n node l ∙ (λ i. sym at i ∷ drop (next i) ns) in
+    let there : drop n os ≡ o ∷ drop (n + 1) os = drop-cons os n d m ∙ ap (λ (k : ℕ). o ∷ drop k os) next in
+    grown old new (G n (act_of node.act) o) (F (steps_of (drop (n + 1) ns)) (drop (n + 1) os) (n + 1)) (F (steps_of (drop n ns)) (drop n os) n) whole
+    (ap (λ (ms : List Node). F (steps_of ms) (drop n os) n) here ∙ ap (λ (us : List Out). F (steps_of (node ∷ drop (n + 1) ns)) us n) there ∙ first (act_of node.act) (steps_of (drop (n + 1) ns)) o (drop (n + 1) os) n)
+    e h
+
+-- no node is left
+pub spots_end : {A : Type 0} (F : List ActData → List Out → ℕ → List A) → ((os : List Out) (n : ℕ) → F [] os n ≡ []) → (old whole : List A) (ns : List Node) (os : List Out) (n : ℕ) → length ns ≤ n → old ++ F (steps_of (drop n ns)) (drop n os) n ≡ whole → old ≡ whole
+spots_end {A} F none old whole ns os n l h =
+    nothing_left old (F (steps_of (drop n ns)) (drop n os) n) whole (ap (λ (ms : List Node). F (steps_of ms) (drop n os) n) (drop_all n ns l) ∙ none (drop n os) n) h
+
+-- nothing that stands for a node is left
+pub outs_end : {A : Type 0} (F : List ActData → List Out → ℕ → List A) → ((ps : List ActData) (n : ℕ) → F ps [] n ≡ []) → (old whole : List A) (ns : List Node) (os : List Out) (n : ℕ) → length os ≤ n → old ++ F (steps_of (drop n ns)) (drop n os) n ≡ whole → old ≡ whole
+outs_end {A} F none old whole ns os n l h =
+    nothing_left old (F (steps_of (drop n ns)) (drop n os) n) whole (ap (λ (us : List Out). F (steps_of (drop n ns)) us n) (drop_all n os l) ∙ none (steps_of (drop n ns)) n) h

@@ -1,7 +1,7 @@
 -- How a walk is asked to end.
 use Rattle.std.specs.Prelude.{Bool}
 use Rattle.dt_model.specs.ModelData.{ActData}
-use Rattle.dt_table.specs.Claims.{ends_done, ends_fault, ends_page}
+use Rattle.dt_ways.specs.Ends.{ends_done, ends_fault, ends_page}
 use Rattle.dt_claims.specs.declared.ends.Ending.{Ending}
 use Rattle.dt_claims.specs.declared.ends.Ending.TheVariants.{Result, Fault, Page}
 

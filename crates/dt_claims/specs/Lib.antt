@@ -1,5 +1,5 @@
 pub mod Endings
-pub mod Lives
+pub mod Marked
 pub mod Relations
 pub mod Steps
 pub mod Tests

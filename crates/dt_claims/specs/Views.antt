@@ -6,12 +6,17 @@ use Rattle.dt_request.specs.declared.list.Requests.{Requests}
 use Rattle.dt_table.specs.declared.out.Out.{Out}
 use Rattle.dt_table.specs.Apart.{Sized}
 use Rattle.dt_table.specs.Passing.{Access}
+use Rattle.dt_table.specs.Spots.{Spot}
 use Rattle.dt_table.specs.Table.{choices, regs_at, inputs_at}
 use Rattle.dt_claims.specs.declared.sized.SizedOut.{SizedOut}
+use Rattle.dt_claims.specs.declared.spots.SpotOut.{SpotOut}
 use Rattle.dt_claims.specs.declared.places.Places.{Places}
 
 abbrev pub sized : SizedOut → Sized
 sized x = record { exponent = x.exponent; out = x.out }
+
+abbrev pub spot : SpotOut → Spot
+spot x = record { access = x.access; node = x.node; live = x.live; ahead = x.ahead.items; of = sized x.of }
 
 -- what stands for the nodes of each access
 abbrev pub rows_of : {Z : Type 0} → List (Vec Out Z) → List (List Out)

@@ -2,11 +2,13 @@ ghost use Rattle.std.specs.Prelude.{◌≡◌, ◌∷◌, [], map, max, IfOk, On
 ghost use Rattle.std.specs.List.{flat_map};
 ghost use Rattle.dt_build.specs.Building.{demanded, placed_in};
 ghost use Rattle.dt_forms.specs.Forms.{form_placed};
-ghost use Rattle.dt_table.specs.Apart.{same_block, apart_form, apart_forms};
-ghost use Rattle.dt_claims.specs.Views.{sized, access_of};
+ghost use Rattle.dt_table.specs.Apart.{same_block, apart_form};
+ghost use Rattle.dt_table.specs.Pairs.{apart_if, apart_forms};
+ghost use Rattle.dt_claims.specs.Views.{sized, spot, access_of};
 
 use crate::places::Places;
 use crate::sized::SizedOut;
+use crate::spots::{SpotOut, can_meet};
 use dt_bits::NoMemory;
 use dt_build::Builder;
 
@@ -48,18 +50,33 @@ pub(crate) fn require_apart(
     builder.require(apart)
 }
 
+// The page overlaps no table whose read is made, where walks can come to both.
+fn require_apart_if(
+    builder: &mut Builder,
+    places: Places,
+    page: &SpotOut,
+    table: &SpotOut,
+) -> Result<(), NoMemory>
+    ensures { OnOk result (builder.new ≡ demanded builder.old (apart_if (access_of places) (spot page.now) (spot table.now))) }
+{
+    if !can_meet(page, table) {
+        return Ok(());
+    }
+    require_apart(builder, places, page.of, table.of, table.of.out.by_then)
+}
+
 // The page overlaps no table whose read is made.
 fn require_page_apart(
     builder: &mut Builder,
     places: Places,
-    page: SizedOut,
-    tables: &[SizedOut],
+    page: &SpotOut,
+    tables: &[SpotOut],
 ) -> Result<(), NoMemory>
     ensures { OnOk result (builder.new ≡ demanded builder.old
-        (map (apart_form (access_of places) (λ o. o.by_then) (sized page)) (map sized tables.now))) }
+        (flat_map (apart_if (access_of places) (spot page.now)) (map spot tables.now))) }
 {
     for table in tables {
-        require_apart(builder, places, page, *table, table.out.by_then)?;
+        require_apart_if(builder, places, page, table)?;
     }
     Ok(())
 }
@@ -69,14 +86,14 @@ fn require_page_apart(
 pub(crate) fn require_pages_apart(
     builder: &mut Builder,
     places: Places,
-    pages: &[SizedOut],
-    tables: &[SizedOut],
+    pages: &[SpotOut],
+    tables: &[SpotOut],
 ) -> Result<(), NoMemory>
     ensures { OnOk result (builder.new ≡ demanded builder.old
-        (apart_forms (access_of places) (map sized pages.now) (map sized tables.now))) }
+        (apart_forms (access_of places) (map spot pages.now) (map spot tables.now))) }
 {
     for page in pages {
-        require_page_apart(builder, places, *page, tables)?;
+        require_page_apart(builder, places, page, tables)?;
     }
     Ok(())
 }

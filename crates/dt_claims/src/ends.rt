@@ -3,7 +3,8 @@ ghost use Rattle.dt_model.specs.ModelData.{act_of, data_of};
 ghost use Rattle.dt_model.specs.Faults.{steps};
 ghost use Rattle.dt_model.specs.Flow.{steps_of};
 ghost use Rattle.dt_build.specs.Building.{demanded};
-ghost use Rattle.dt_table.specs.Claims.{is_end, ends_only};
+ghost use Rattle.dt_table.specs.Claims.{ends_only};
+ghost use Rattle.dt_ways.specs.Ends.{is_end};
 ghost use Rattle.dt_claims.specs.Endings.{passes};
 ghost use Rattle.dt_claims.specs.Steps.{end_forms};
 

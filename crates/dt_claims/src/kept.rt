@@ -3,10 +3,12 @@ ghost use Rattle.std.specs.List.{flat_map};
 ghost use Rattle.dt_build.specs.Building.{demanded, placed_in};
 ghost use Rattle.dt_forms.specs.Forms.{form_placed};
 ghost use Rattle.dt_table.specs.Kept.{touches_form, kept_form, kept_forms};
-ghost use Rattle.dt_claims.specs.Views.{sized, access_of};
+ghost use Rattle.dt_table.specs.Spots.{only_if};
+ghost use Rattle.dt_claims.specs.Views.{sized, spot, access_of};
 
 use crate::places::Places;
 use crate::sized::SizedOut;
+use crate::spots::SpotOut;
 use crate::terms::{number, quotient};
 use dt_bits::NoMemory;
 use dt_build::Builder;
@@ -58,18 +60,34 @@ fn require_kept(
     builder.require(free)
 }
 
+// The same, where walks can come to the node.
+fn require_kept_if(
+    builder: &mut Builder,
+    places: Places,
+    kept: KeptRange,
+    block: &SpotOut,
+    made: u32,
+) -> Result<(), NoMemory>
+    ensures { OnOk result (builder.new ≡ demanded builder.old (only_if block.now.live (kept_form (access_of places) kept (λ _. made) (sized block.now.of)))) }
+{
+    if !block.live {
+        return Ok(());
+    }
+    require_kept(builder, places, kept, block.of, made)
+}
+
 // No page to which the walk comes touches the range.
 fn require_pages_kept(
     builder: &mut Builder,
     places: Places,
-    pages: &[SizedOut],
+    pages: &[SpotOut],
     kept: KeptRange,
 ) -> Result<(), NoMemory>
     ensures { OnOk result (builder.new ≡ demanded builder.old
-        (map (kept_form (access_of places) kept (λ o. o.come)) (map sized pages.now))) }
+        (flat_map (λ x. only_if x.live (kept_form (access_of places) kept (λ o. o.come) x.of)) (map spot pages.now))) }
 {
     for page in pages {
-        require_kept(builder, places, kept, *page, page.out.come)?;
+        require_kept_if(builder, places, kept, page, page.of.out.come)?;
     }
     Ok(())
 }
@@ -78,14 +96,14 @@ fn require_pages_kept(
 fn require_tables_kept(
     builder: &mut Builder,
     places: Places,
-    tables: &[SizedOut],
+    tables: &[SpotOut],
     kept: KeptRange,
 ) -> Result<(), NoMemory>
     ensures { OnOk result (builder.new ≡ demanded builder.old
-        (map (kept_form (access_of places) kept (λ o. o.by_then)) (map sized tables.now))) }
+        (flat_map (λ x. only_if x.live (kept_form (access_of places) kept (λ o. o.by_then) x.of)) (map spot tables.now))) }
 {
     for table in tables {
-        require_kept(builder, places, kept, *table, table.out.by_then)?;
+        require_kept_if(builder, places, kept, table, table.of.out.by_then)?;
     }
     Ok(())
 }
@@ -94,12 +112,12 @@ fn require_tables_kept(
 fn require_range_kept(
     builder: &mut Builder,
     places: Places,
-    pages: &[SizedOut],
-    tables: &[SizedOut],
+    pages: &[SpotOut],
+    tables: &[SpotOut],
     kept: KeptRange,
 ) -> Result<(), NoMemory>
     ensures { OnOk result (builder.new ≡ demanded builder.old
-        (kept_forms (access_of places) (map sized pages.now) (map sized tables.now) kept)) }
+        (kept_forms (access_of places) (map spot pages.now) (map spot tables.now) kept)) }
 {
     if kept.lo >= kept.hi {
         return Ok(());
@@ -113,12 +131,12 @@ fn require_range_kept(
 pub(crate) fn require_ranges_kept(
     builder: &mut Builder,
     places: Places,
-    pages: &[SizedOut],
-    tables: &[SizedOut],
+    pages: &[SpotOut],
+    tables: &[SpotOut],
     ranges: &[KeptRange],
 ) -> Result<(), NoMemory>
     ensures { OnOk result (builder.new ≡ demanded builder.old
-        (flat_map (kept_forms (access_of places) (map sized pages.now) (map sized tables.now)) ranges.now)) }
+        (flat_map (kept_forms (access_of places) (map spot pages.now) (map spot tables.now)) ranges.now)) }
 {
     for kept in ranges {
         require_range_kept(builder, places, pages, tables, *kept)?;

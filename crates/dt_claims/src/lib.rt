@@ -18,6 +18,7 @@ mod outs;
 mod pairs;
 mod places;
 mod sized;
+mod spots;
 mod terms;
 mod widths;
 

@@ -3,19 +3,20 @@ ghost use Rattle.std.specs.List.{flat_map};
 ghost use Rattle.dt_model.specs.ModelData.{data_of};
 ghost use Rattle.dt_build.specs.Building.{demanded, placed_in};
 ghost use Rattle.dt_forms.specs.Forms.{form_placed};
-ghost use Rattle.dt_table.specs.Links.{one_block, apart_blocks, one_cell, one_page, reads_forms, pages_forms, link_forms, side_at};
+ghost use Rattle.dt_table.specs.Links.{one_block, apart_blocks, one_cell, one_page, reads_forms, outs_of, page_if, pages_forms, access_pages, link_forms, side_at};
 ghost use Rattle.dt_claims.specs.Relations.{relation_form, page_relation_form};
-ghost use Rattle.dt_claims.specs.Views.{sized, access_of, rows_of};
+ghost use Rattle.dt_claims.specs.Views.{sized, spot, access_of, rows_of};
 
 use crate::apart::{require_apart, same_block};
 use crate::ends::{Ending, require_ends};
 use crate::outs::{outs_of, side_at};
 use crate::places::Places;
-use crate::sized::{SizedOut, push_pages};
+use crate::sized::SizedOut;
+use crate::spots::{SpotOut, push_pages};
 use dt_bits::{NoMemory, Op};
 use dt_build::Builder;
 use dt_model::Model;
-use dt_request::{Link, Side};
+use dt_request::{Link, Requests, Side};
 use dt_table::Out;
 use std::alloc::Global;
 
@@ -162,19 +163,36 @@ fn require_page_pair(
     }
 }
 
+// The same, of two pages to which walks can come.
+fn require_page_if(
+    builder: &mut Builder,
+    places: Places,
+    relation: PageRelation,
+    x: &SpotOut,
+    y: &SpotOut,
+) -> Result<(), NoMemory>
+    ensures { OnOk result (builder.new ≡ demanded builder.old
+        (page_if (page_relation_form (access_of places) relation) (spot x.now) (spot y.now))) }
+{
+    if !(x.live && y.live) {
+        return Ok(());
+    }
+    require_page_pair(builder, places, relation, x.of, y.of)
+}
+
 // The page with each of the others.
 fn require_page_with(
     builder: &mut Builder,
     places: Places,
     relation: PageRelation,
-    page: SizedOut,
-    others: &[SizedOut],
+    page: &SpotOut,
+    others: &[SpotOut],
 ) -> Result<(), NoMemory>
     ensures { OnOk result (builder.new ≡ demanded builder.old
-        (map (page_relation_form (access_of places) relation (sized page)) (map sized others.now))) }
+        (flat_map (page_if (page_relation_form (access_of places) relation) (spot page.now)) (map spot others.now))) }
 {
     for other in others {
-        require_page_pair(builder, places, relation, page, *other)?;
+        require_page_if(builder, places, relation, page, other)?;
     }
     Ok(())
 }
@@ -184,16 +202,38 @@ fn require_page_pairs(
     builder: &mut Builder,
     places: Places,
     relation: PageRelation,
-    pages: &[SizedOut],
-    others: &[SizedOut],
+    pages: &[SpotOut],
+    others: &[SpotOut],
 ) -> Result<(), NoMemory>
     ensures { OnOk result (builder.new ≡ demanded builder.old
-        (flat_map (λ x. map (page_relation_form (access_of places) relation x) (map sized others.now)) (map sized pages.now))) }
+        (flat_map (λ x. flat_map (page_if (page_relation_form (access_of places) relation) x) (map spot others.now)) (map spot pages.now))) }
 {
     for page in pages {
-        require_page_with(builder, places, relation, *page, others)?;
+        require_page_with(builder, places, relation, page, others)?;
     }
     Ok(())
+}
+
+// The results of the walk of an access.
+fn access_pages(
+    alloc: Global,
+    model: &Model,
+    requests: &Requests,
+    rows: &[Vec<Out>],
+    access: u32,
+) -> Result<Vec<SpotOut>, NoMemory>
+    ensures { IfOk result (λ v. map spot v.items ≡ access_pages (data_of model.now) requests.now (rows_of rows.now) access) }
+{
+    let mut pages = Vec::new(alloc);
+    push_pages(
+        alloc,
+        model,
+        requests,
+        access as usize,
+        outs_of(rows, access),
+        &mut pages,
+    )?;
+    Ok(pages)
 }
 
 // Both walks end with a result, and their pages relate so.
@@ -201,26 +241,27 @@ fn require_pages(
     alloc: Global,
     builder: &mut Builder,
     model: &Model,
+    requests: &Requests,
     places: Places,
+    rows: &[Vec<Out>],
     relation: PageRelation,
-    outs: &[Out],
-    others: &[Out],
+    a: u32,
+    b: u32,
 ) -> Result<(), NoMemory>
-    ensures { OnOk result (builder.new ≡ demanded builder.old
-        (pages_forms (data_of model.now) (page_relation_form (access_of places) relation) outs.now others.now)) }
+    ensures { let d = data_of model.now in let r = requests.now in let outs = rows_of rows.now in
+        OnOk result (builder.new ≡ demanded builder.old
+        (pages_forms d (page_relation_form (access_of places) relation) (outs_of outs a) (outs_of outs b) (access_pages d r outs a) (access_pages d r outs b))) }
 {
-    require_ends(builder, Ending::Result, model, outs)?;
-    require_ends(builder, Ending::Result, model, others)?;
-    let mut pages = Vec::new(alloc);
-    push_pages(model, outs, &mut pages)?;
-    let mut other_pages = Vec::new(alloc);
-    push_pages(model, others, &mut other_pages)?;
+    require_ends(builder, Ending::Result, model, outs_of(rows, a))?;
+    require_ends(builder, Ending::Result, model, outs_of(rows, b))?;
+    let pages = access_pages(alloc, model, requests, rows, a)?;
+    let others = access_pages(alloc, model, requests, rows, b)?;
     require_page_pairs(
         builder,
         places,
         relation,
         pages.as_slice(),
-        other_pages.as_slice(),
+        others.as_slice(),
     )
 }
 
@@ -229,12 +270,13 @@ fn require_link(
     alloc: Global,
     builder: &mut Builder,
     model: &Model,
+    requests: &Requests,
     places: Places,
     rows: &[Vec<Out>],
     link: Link,
 ) -> Result<(), NoMemory>
     ensures { OnOk result (builder.new ≡ demanded builder.old
-        (link_forms (data_of model.now) (access_of places) (rows_of rows.now) link)) }
+        (link_forms (data_of model.now) requests.now (access_of places) (rows_of rows.now) link)) }
 {
     match link {
         Link::ShareTable(a, b) => {
@@ -247,27 +289,15 @@ fn require_link(
             require_sides(builder, model, places, rows, Relation::TablesApart, a, b)
         }
         Link::SharePage(a, b) => {
-            let (outs, others) = (outs_of(rows, a), outs_of(rows, b));
+            let relation = PageRelation::One;
             require_pages(
-                alloc,
-                builder,
-                model,
-                places,
-                PageRelation::One,
-                outs,
-                others,
+                alloc, builder, model, requests, places, rows, relation, a, b,
             )
         }
         Link::ApartPage(a, b) => {
-            let (outs, others) = (outs_of(rows, a), outs_of(rows, b));
+            let relation = PageRelation::Apart;
             require_pages(
-                alloc,
-                builder,
-                model,
-                places,
-                PageRelation::Apart,
-                outs,
-                others,
+                alloc, builder, model, requests, places, rows, relation, a, b,
             )
         }
     }
@@ -278,15 +308,16 @@ pub(crate) fn require_links(
     alloc: Global,
     builder: &mut Builder,
     model: &Model,
+    requests: &Requests,
     places: Places,
     rows: &[Vec<Out>],
     links: &[Link],
 ) -> Result<(), NoMemory>
     ensures { OnOk result (builder.new ≡ demanded builder.old
-        (flat_map (link_forms (data_of model.now) (access_of places) (rows_of rows.now)) links.now)) }
+        (flat_map (link_forms (data_of model.now) requests.now (access_of places) (rows_of rows.now)) links.now)) }
 {
     for link in links {
-        require_link(alloc, builder, model, places, rows, *link)?;
+        require_link(alloc, builder, model, requests, places, rows, *link)?;
     }
     Ok(())
 }

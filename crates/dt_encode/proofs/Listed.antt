@@ -30,7 +30,7 @@ use Rattle.dt_table.proofs.FineTable.{table_terms}
 use Rattle.dt_table.proofs.Satisfying.{solving_from}
 use Rattle.dt_table.proofs.Theorem.{values_range, ones_of}
 use Rattle.dt_table.proofs.Whole.{to_image, to_memory}
-use Rattle.dt_encode.specs.ReadWords.{is_listed, is_read, ListsReads}
+use Rattle.dt_encode.specs.ReadWords.{is_listed, reads_cell, ListsReads}
 
 -- ---- words of reads
 
@@ -59,7 +59,7 @@ words_listed (r ∷ rs) b = listed_with r.cell r.word (words_read rs) b ∙ ap (
 
 -- ---- runs
 
-reads_any : (v : Valuation) (ps : List ActData) (oss : List (List Out)) (b : ℕ) → list_any (λ (m : ReadMade). eqb m.cell b) (reads_told v ps oss) ≡ is_read (map (λ os. told v ps os 0) oss) b
+reads_any : (v : Valuation) (ps : List ActData) (oss : List (List Out)) (b : ℕ) → list_any (λ (m : ReadMade). eqb m.cell b) (reads_told v ps oss) ≡ reads_cell (map (λ os. told v ps os 0) oss) b
 reads_any v ps [] b = refl
 reads_any v ps (os ∷ oss) b =
     let test : ReadMade → Bool = λ m. eqb m.cell b in
@@ -86,7 +86,7 @@ told_lists d r numbers a h list i s b =
     let all = solving_from v d r (ready_from d a h) list (values_range terms numbers t i) (lawful_values terms numbers t) (ones_of terms numbers (table d r).required s) in
     words_listed (reads_told v (steps d) oss) b
     ∙ reads_any v (steps d) oss b
-    ∙ ap (λ (runs : List RunData). is_read runs b) (sym (runs_told v d r (image_told v d r).memory 0 r.accesses oss all.given.contexts all.walks))
+    ∙ ap (λ (runs : List RunData). reads_cell runs b) (sym (runs_told v d r (image_told v d r).memory 0 r.accesses oss all.given.contexts all.walks))
 
 -- what holds of the image that a solution tells
 pub record Holds (d : ModelData) (r : Requests) (i : Image) : Type 0 where

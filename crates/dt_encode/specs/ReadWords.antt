@@ -12,9 +12,9 @@ abbrev pub is_listed : List Word → ℕ → Bool
 is_listed words address = list_any (λ w. w.address == address) words
 
 -- one of the runs makes a read at this cell
-abbrev pub is_read : List RunData → ℕ → Bool
-is_read runs cell = list_any (λ run. list_any (λ m. m.cell == cell) run.reads) runs
+abbrev pub reads_cell : List RunData → ℕ → Bool
+reads_cell runs cell = list_any (λ run. list_any (λ m. m.cell == cell) run.reads) runs
 
 -- the addresses of the words are the cells of the reads that the runs make
 abbrev pub ListsReads : ModelData → Image → Type 0
-ListsReads d i = (a : ℕ) → is_listed i.memory.words a ≡ is_read (runs_of d i) a
+ListsReads d i = (a : ℕ) → is_listed i.memory.words a ≡ reads_cell (runs_of d i) a

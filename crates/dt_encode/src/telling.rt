@@ -5,7 +5,7 @@ ghost use Rattle.dt_request.specs.Lists.{IsList};
 ghost use Rattle.dt_image.specs.Images.{IsImage};
 ghost use Rattle.dt_satisfy.specs.Satisfies.{Matches, Satisfies};
 ghost use Rattle.dt_terms.specs.Values.{IsAssignment, solves};
-ghost use Rattle.dt_forms.specs.Meaning.{values};
+ghost use Rattle.dt_forms.specs.Meaning.{values as term_values};
 ghost use Rattle.dt_table.specs.Images.{image_told};
 ghost use Rattle.dt_table.specs.Table.{table};
 ghost use Rattle.dt_encode.specs.ReadWords.{ListsReads};
@@ -21,7 +21,7 @@ use dt_model::{Accepted, word_bytes};
 use dt_request::Requests;
 use std::alloc::Global;
 
-/// The image that numbers tell which solve the problem of the list: the registers and inputs are
+/// The image that values of the choices tell which solve the problem of the list: the registers and inputs are
 /// their choices' numbers, and the words are those of the reads that the accesses make, one for each
 /// cell and no others. It satisfies the list. The list is of the model.
 ///
@@ -35,13 +35,13 @@ pub fn image_of(
     alloc: Global,
     model: &Accepted,
     requests: &Requests,
-    numbers: &[u128],
+    values: &[u128],
 ) -> Result<Image, NoMemory>
     requires list { IsList (accepted_data model.now) requests.now }
-    requires assignment { IsAssignment (table (accepted_data model.now) requests.now).terms numbers.now }
-    requires solves { solves (table (accepted_data model.now) requests.now) numbers.now ≡ true }
+    requires assignment { IsAssignment (table (accepted_data model.now) requests.now).terms values.now }
+    requires solves { solves (table (accepted_data model.now) requests.now) values.now ≡ true }
     ensures image { let d = accepted_data model.now in IfOk result (λ image. image
-        ≡ image_told (values (table d requests.now).terms numbers.now) d requests.now) }
+        ≡ image_told (term_values (table d requests.now).terms values.now) d requests.now) }
     ensures satisfies { IfOk result (Satisfies (accepted_data model.now) requests.now) }
     ensures of_model { IfOk result (IsImage (accepted_data model.now)) }
     ensures matches { IfOk result (Matches requests.now) }
@@ -49,13 +49,13 @@ pub fn image_of(
     ensures words { IfOk result (ListsReads (accepted_data model.now)) }
 {
     let encoded = build(alloc, model, requests)?;
-    let values = term_values(alloc, &encoded.problem, numbers)?;
-    let values = values.as_slice();
+    let of_terms = term_values(alloc, &encoded.problem, values)?;
+    let of_terms = of_terms.as_slice();
     let nodes = model.model().nodes.as_slice();
-    let reads = all_reads(alloc, nodes, encoded.outs.as_slice(), values)?;
+    let reads = all_reads(alloc, nodes, encoded.outs.as_slice(), of_terms)?;
     let words = words_of(alloc, reads)?;
-    let contexts = contexts_told(alloc, model, values, requests.contexts.len())?;
-    let accesses = accesses_told(alloc, model, requests, values)?;
+    let contexts = contexts_told(alloc, model, of_terms, requests.contexts.len())?;
+    let accesses = accesses_told(alloc, model, requests, of_terms)?;
     let memory = TableMemory {
         bytes: word_bytes(model),
         lo: requests.lo,

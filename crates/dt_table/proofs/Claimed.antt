@@ -23,7 +23,7 @@ use Rattle.dt_forms.specs.Forms.{term}
 use Rattle.dt_forms.proofs.Tells.{Tells, one_tells, TellAll, none_tell, tell_as, many_tell, each_tells}
 use Rattle.dt_table.specs.declared.out.Out.{Out}
 use Rattle.dt_table.specs.Told.{told}
-use Rattle.dt_table.specs.Claims.{ends_done, ends_fault, ends_page}
+use Rattle.dt_ways.specs.Ends.{ends_done, ends_fault, ends_page}
 use Rattle.dt_table.specs.Demands.{is_masked_form, is_within_form, quantity_width, demand_forms}
 use Rattle.dt_table.specs.Table.{regs_at, inputs_at, access_of, rule_named, wish_forms}
 use Rattle.dt_table.specs.Images.{bits_from, contexts_told, accesses_told}
@@ -143,7 +143,7 @@ some_there None P h = absurd h
 some_there (Some x) P h = refl
 
 -- the forms of a demand hold exactly where the access meets it
-demand_tells : (v : Valuation) (d : ModelData) (r : Requests) (k : ℕ) (a : AccessWish) (os : List Out) (demand : Demand) → AreNodes v d os → IsDemand d demand
+pub demand_tells : (v : Valuation) (d : ModelData) (r : Requests) (k : ℕ) (a : AccessWish) (os : List Out) (demand : Demand) → AreNodes v d os → IsDemand d demand
     → Tells v (demand_forms d (access_of d r k a) os demand) (meets (told_made v d r k a os) demand)
 demand_tells v d r k a os EndDone h o =
     let end = (told v (steps d) os 0).end in

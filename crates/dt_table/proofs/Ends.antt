@@ -8,7 +8,8 @@ use Rattle.dt_walk.specs.declared.run.End.TheVariants.{Done, Fault}
 use Rattle.dt_table.specs.declared.out.Out.{Out}
 use Rattle.dt_forms.specs.Meaning.{Valuation, flag, is_one}
 use Rattle.dt_forms.specs.Forms.{term, form_value}
-use Rattle.dt_table.specs.Claims.{is_end, ends_only}
+use Rattle.dt_table.specs.Claims.{ends_only}
+use Rattle.dt_ways.specs.Ends.{is_end}
 use Rattle.dt_forms.specs.Claims.{Hold}
 use Rattle.dt_forms.proofs.Lawful.{flag_one}
 use Rattle.dt_forms.proofs.Tells.{Tells}

@@ -25,11 +25,13 @@ use Rattle.dt_forms.specs.Forms.{Form, term, number, form1, not_of, both_of, imp
 use Rattle.dt_forms.proofs.Fine.{IsSized, IsFine, AreFine, term_fine, number_fine, not_fine, and_fine, both_fine, or_fine, implies_fine, same_fine, less_fine, shr_fine, fine_map, fine_append, fine_flat}
 use Rattle.dt_table.specs.declared.out.Out.{Out}
 use Rattle.dt_table.specs.Passing.{Access}
-use Rattle.dt_table.specs.Claims.{is_end, ends_done, ends_fault, ends_page, ends_only, pair_form, pair_forms, reads_of}
-use Rattle.dt_table.specs.Apart.{Sized, same_block, apart_form, apart_forms, pages_at, tables_at}
-use Rattle.dt_table.specs.Kept.{touches_form, kept_form, kept_forms}
+use Rattle.dt_table.specs.Claims.{ends_only, pair_form, reads_of}
+use Rattle.dt_ways.specs.Ends.{is_end, ends_done, ends_fault, ends_page}
+use Rattle.dt_table.specs.Apart.{Sized, same_block, apart_form, pages_at, tables_at}
+use Rattle.dt_table.specs.Kept.{touches_form, kept_form}
 use Rattle.dt_table.specs.Demands.{result_form, quantity_forms, is_masked_form, is_within_form, quantity_width, demand_forms}
-use Rattle.dt_table.specs.Links.{outs_of, side_at, reads_forms, one_block, apart_blocks, one_cell, one_page, pages_forms, link_forms}
+use Rattle.dt_table.specs.Links.{outs_of, side_at, reads_forms, one_block, apart_blocks, one_cell, one_page}
+use Rattle.dt_table.proofs.Every.{every_pair, every_apart, every_kept, every_page, every_link}
 use Rattle.dt_table.specs.Outs.{out_at, edge_at}
 use Rattle.dt_table.proofs.Flagged.{AllOuts}
 use Rattle.dt_table.proofs.Sides.{out_fact}
@@ -92,7 +94,7 @@ apart_fine word terms a key x y b h k l =
     not_fine terms (both_of both block)
     (both_fine terms both block (both_fine terms (term x.out.come) (term (key y.out)) (term_fine terms x.out.come 1 h.come) (term_fine terms (key y.out) 1 l)) (block_fine terms a (max x.exponent y.exponent) x.out.value y.out.value b h.value k.value))
 
-pub aparts_fine : (word : ℕ) (terms : List Term) (a : Access) (pages tables : List Sized) → AreBits terms a → AreNodesSized a.address word terms pages → AreNodesSized a.address word terms tables → AreFine terms (apart_forms a pages tables)
+pub aparts_fine : (word : ℕ) (terms : List Term) (a : Access) (pages tables : List Sized) → AreBits terms a → AreNodesSized a.address word terms pages → AreNodesSized a.address word terms tables → AreFine terms (every_apart a pages tables)
 aparts_fine word terms a pages tables b h k =
     fine_flat terms (λ (x : Sized). IsNodeSized a.address word terms x.out) (λ (p : Sized). map (apart_form a (λ (o : Out). o.by_then) p) tables)
     (λ x i. fine_map terms (λ (y : Sized). IsNodeSized a.address word terms y.out) (apart_form a (λ (o : Out). o.by_then) x) (λ y j. apart_fine word terms a (λ (o : Out). o.by_then) x y b i j j.by_then) tables k) pages h
@@ -109,10 +111,10 @@ pair_fine address word terms o q h k =
     (same_fine terms (term o.value) (term q.value) address (term_fine terms o.value address h.value) (term_fine terms q.value address k.value)))
     (same_fine terms (term o.word) (term q.word) word (term_fine terms o.word word h.word_is) (term_fine terms q.word word k.word_is))
 
-pub pairs_fine : (address word : ℕ) (terms : List Term) (os : List Out) → AllByRecursion (IsReadSized address word terms) os → AreFine terms (pair_forms os)
+pub pairs_fine : (address word : ℕ) (terms : List Term) (os : List Out) → AllByRecursion (IsReadSized address word terms) os → AreFine terms (every_pair os)
 pairs_fine address word terms [] h = tt
 pairs_fine address word terms (o ∷ os) h =
-    fine_append terms (map (pair_form o) os) (pair_forms os) (fine_map terms (IsReadSized address word terms) (pair_form o) (λ q k. pair_fine address word terms o q h.0 k) os h.1) (pairs_fine address word terms os h.1)
+    fine_append terms (map (pair_form o) os) (every_pair os) (fine_map terms (IsReadSized address word terms) (pair_form o) (λ q k. pair_fine address word terms o q h.0 k) os h.1) (pairs_fine address word terms os h.1)
 
 -- ---- kept ranges
 
@@ -133,7 +135,7 @@ touches_fine terms a e k t b l within h = by_size (leb a.address e) refl
         (not_fine terms (less_of first quotient) (less_fine terms first quotient a.address (number_fine terms a.address ((k.hi - 1) / 2 ^ e) b.wide (omega (arith, x, l, within))) z))
         (not_fine terms (less_of quotient last) (less_fine terms quotient last a.address z (number_fine terms a.address (k.lo / 2 ^ e) b.wide (omega (arith, y, l, within)))))
 
-kept_fine : (word : ℕ) (terms : List Term) (a : Access) (pages tables : List Sized) (k : KeptRange) → AreBits terms a → k.hi ≤ 2 ^ a.address → AreNodesSized a.address word terms pages → AreNodesSized a.address word terms tables → AreFine terms (kept_forms a pages tables k)
+kept_fine : (word : ℕ) (terms : List Term) (a : Access) (pages tables : List Sized) (k : KeptRange) → AreBits terms a → k.hi ≤ 2 ^ a.address → AreNodesSized a.address word terms pages → AreNodesSized a.address word terms tables → AreFine terms (every_kept a pages tables k)
 kept_fine word terms a pages tables k b within h i = by_range (ltb k.lo k.hi) refl
   where
     one : (key : Out → ℕ) (x : Sized) → k.lo < k.hi → IsSized terms (key x.out) 1 → IsNodeSized a.address word terms x.out → IsFine terms (kept_form a k key x) 1
@@ -150,8 +152,8 @@ kept_fine word terms a pages tables k b within h i = by_range (ltb k.lo k.hi) re
     by_range false q = tt
 
 pub keeps_fine : (word : ℕ) (terms : List Term) (a : Access) (pages tables : List Sized) (ks : List KeptRange) → AreBits terms a → AreNodesSized a.address word terms pages → AreNodesSized a.address word terms tables
-    → AllByRecursion (λ (k : KeptRange). k.hi ≤ 2 ^ a.address) ks → AreFine terms (flat_map (kept_forms a pages tables) ks)
-keeps_fine word terms a pages tables ks b h i w = fine_flat terms (λ (k : KeptRange). k.hi ≤ 2 ^ a.address) (kept_forms a pages tables) (λ k l. kept_fine word terms a pages tables k b l h i) ks w
+    → AllByRecursion (λ (k : KeptRange). k.hi ≤ 2 ^ a.address) ks → AreFine terms (flat_map (every_kept a pages tables) ks)
+keeps_fine word terms a pages tables ks b h i w = fine_flat terms (λ (k : KeptRange). k.hi ≤ 2 ^ a.address) (every_kept a pages tables) (λ k l. kept_fine word terms a pages tables k b l h i) ks w
 
 -- ---- what stands for the nodes of one access
 
@@ -326,7 +328,7 @@ one_page_fine word terms a x y b h k = by_size (eqb x.exponent y.exponent)
     by_size false = not_fine terms (both_of (term x.out.come) (term y.out.come)) (come_both a.address word terms x y h k)
 
 pages_fine : (d : ModelData) (terms : List Term) (form : Sized → Sized → Form) (os others : List Out) → AreOutsSized d terms os → AreOutsSized d terms others
-    → ((x y : Sized) → IsNodeSized d.address d.word terms x.out → IsNodeSized d.address d.word terms y.out → IsFine terms (form x y) 1) → AreFine terms (pages_forms d form os others)
+    → ((x y : Sized) → IsNodeSized d.address d.word terms x.out → IsNodeSized d.address d.word terms y.out → IsFine terms (form x y) 1) → AreFine terms (every_page d form os others)
 pages_fine d terms form os others h k f =
     let P : Sized → Type 0 = λ (x : Sized). IsNodeSized d.address d.word terms x.out in
     let xs = pages_at (steps d) os in
@@ -336,7 +338,7 @@ pages_fine d terms form os others h k f =
     (fine_append terms (ends_only ends_done (steps d) others) rows (ends_fine d.address d.word terms ends_done (steps d) others k.outs)
     (fine_flat terms P (λ (x : Sized). map (form x) ys) (λ x i. fine_map terms P (form x) (λ y j. f x y i j) ys (pages_sized d.address d.word terms (steps d) others k.outs)) xs (pages_sized d.address d.word terms (steps d) os h.outs)))
 
-link_fine : (d : ModelData) (a : Access) (terms : List Term) (oss : List (List Out)) (link : Link) → a.address ≡ d.address → AreBits terms a → AllByRecursion (AreOutsSized d terms) oss → IsLink d (length oss) link → AreFine terms (link_forms d a oss link)
+link_fine : (d : ModelData) (a : Access) (terms : List Term) (oss : List (List Out)) (link : Link) → a.address ≡ d.address → AreBits terms a → AllByRecursion (AreOutsSized d terms) oss → IsLink d (length oss) link → AreFine terms (every_link d a oss link)
 link_fine d a terms oss (ShareTable s t) e b h i =
     let x = side_sized d terms oss s h i.0 in
     let y = side_sized d terms oss t h i.1 in
@@ -364,5 +366,5 @@ link_fine d a terms oss (ApartPage j k) e b h i =
     (λ x y p q. apart_fine d.word terms a (λ (o : Out). o.come) x y b (subst (λ (w : ℕ). IsNodeSized w d.word terms x.out) (sym e) p) (subst (λ (w : ℕ). IsNodeSized w d.word terms y.out) (sym e) q) q.come)
 
 pub links_fine : (d : ModelData) (a : Access) (terms : List Term) (oss : List (List Out)) (links : List Link) → a.address ≡ d.address → AreBits terms a → AllByRecursion (AreOutsSized d terms) oss → AllByRecursion (IsLink d (length oss)) links
-    → AreFine terms (flat_map (link_forms d a oss) links)
-links_fine d a terms oss links e b h i = fine_flat terms (IsLink d (length oss)) (link_forms d a oss) (λ l j. link_fine d a terms oss l e b h j) links i
+    → AreFine terms (flat_map (every_link d a oss) links)
+links_fine d a terms oss links e b h i = fine_flat terms (IsLink d (length oss)) (every_link d a oss) (λ l j. link_fine d a terms oss l e b h j) links i

@@ -19,11 +19,11 @@ use Rattle.dt_request.specs.Lists.{IsList}
 use Rattle.dt_terms.specs.Problem.{IsProblem, IsTest, most_terms}
 use Rattle.dt_forms.proofs.Fine.{forms_size, size_append}
 use Rattle.dt_table.specs.declared.out.Out.{Out}
-use Rattle.dt_table.specs.Claims.{pair_forms, reads_of}
+use Rattle.dt_table.specs.Claims.{reads_of}
+use Rattle.dt_table.proofs.Every.{every_pair, every_link, every_block, every_keep, every_list, every_claim, claim_part}
 use Rattle.dt_table.specs.Apart.{pages_at, tables_at}
-use Rattle.dt_table.specs.Links.{link_forms}
 use Rattle.dt_table.specs.Sizes.{IsWithin, done_nodes, model_operators, read_product, done_product}
-use Rattle.dt_table.specs.Table.{names_chosen, access_chosen, choices, list_access, bit_node, start, built, wish_forms, page_forms, keep_forms, list_forms, claim_forms, table}
+use Rattle.dt_table.specs.Table.{names_chosen, access_chosen, choices, list_access, bit_node, start, built, wish_forms, claim_forms, table}
 use Rattle.dt_table.proofs.Ready.{reads_in, reads_in_nodes, access_length}
 use Rattle.dt_table.proofs.Stand.{names_length, repeated_length}
 use Rattle.dt_table.proofs.FineWalks.{steps_size}
@@ -127,15 +127,15 @@ accesses_most d r a list within =
     let z = within.reads in
     omega (arith, l, s, t, u, v, w, y, z)
 
-pub claims_most : (d : ModelData) (r : Requests) (oss : List (List Out)) → IsAccepted d → IsList d r → IsWithin d r → length oss ≡ length r.accesses → forms_size (claim_forms d r oss) ≤ 1999872
-claims_most d r oss accepted list within same =
+every_most : (d : ModelData) (r : Requests) (oss : List (List Out)) → IsAccepted d → IsList d r → IsWithin d r → length oss ≡ length r.accesses → forms_size (every_claim d r oss) ≤ 1999872
+every_most d r oss accepted list within same =
     let a = list_access d r in
     let A = length r.accesses in
     let D = dones_in (steps d) in
     let pages = flat_map (pages_at (steps d)) oss in
     let tables = flat_map (tables_at (steps d)) oss in
     let reads = flat_map (reads_of (steps d)) oss in
-    let links = flat_map (link_forms d a oss) r.links in
+    let links = flat_map (every_link d a oss) r.links in
     let dones : D ≡ done_nodes d = dones_total d.nodes in
     let few : D ≤ 16 = (let s = (small_is d accepted).dones in omega (arith, dones, s)) in
     let known : reads_in (steps d) ≡ read_nodes d = reads_in_nodes d.nodes in
@@ -147,10 +147,10 @@ claims_most d r oss accepted list within same =
     let tables_most : length tables ≤ 256 = (let w = within.reads in omega (arith, q1, q2, w)) in
     let q3 = length_flat (reads_of (steps d)) (reads_in (steps d)) (reads_count (steps d)) oss in
     let reads_most : length reads ≤ 256 = (let w = within.reads in omega (arith, q3, q2, w)) in
-    let s1 = size_append (pair_forms reads) (list_forms d r oss) in
-    let s2 = size_append (wish_forms d r 0 r.accesses oss) (links ++ (page_forms d r oss ++ keep_forms d r oss)) in
-    let s3 = size_append links (page_forms d r oss ++ keep_forms d r oss) in
-    let s4 = size_append (page_forms d r oss) (keep_forms d r oss) in
+    let s1 = size_append (every_pair reads) (every_list d r oss) in
+    let s2 = size_append (wish_forms d r 0 r.accesses oss) (links ++ (every_block d r oss ++ every_keep d r oss)) in
+    let s3 = size_append links (every_block d r oss ++ every_keep d r oss) in
+    let s4 = size_append (every_block d r oss) (every_keep d r oss) in
     let x1 = pairs_size reads in
     let y1 : length reads * (length reads * 6) ≤ 256 * (256 * 6) = mul-le-mul reads_most (mul-le-mul_right 6 reads_most) in
     let x2 = wishes_size d r r.accesses oss 0 (wish_few d r r.accesses (wishes_of d r list)) in
@@ -170,6 +170,9 @@ claims_most d r oss accepted list within same =
     let n = list.few_accesses in
     let w = within.dones in
     omega (arith, s1, s2, s3, s4, x1, y1, x2, y2, z2, w2, v2, x3, y3, x4, y4, x5, y5, n, w)
+
+pub claims_most : (d : ModelData) (r : Requests) (oss : List (List Out)) → IsAccepted d → IsList d r → IsWithin d r → length oss ≡ length r.accesses → forms_size (claim_forms d r oss) ≤ 1999872
+claims_most d r oss accepted list within same = let m = (claim_part d r oss).most in let n = every_most d r oss accepted list within same in omega (arith, m, n)
 
 -- ---- the whole
 

@@ -22,12 +22,16 @@ use Rattle.dt_forms.proofs.Fine.{IsSized, AreFine, forms_size, all_stand, tests_
 use Rattle.dt_table.specs.Expressions.{Named, form_of}
 use Rattle.dt_table.specs.declared.out.Out.{Out}
 use Rattle.dt_table.specs.Passing.{walk_placed}
-use Rattle.dt_table.specs.Claims.{pair_forms, reads_of}
+use Rattle.dt_table.specs.Claims.{reads_of}
+use Rattle.dt_table.proofs.Every.{every_pair, every_link, every_block, every_keep, every_list, every_claim, pages_in, tables_in, reads_among, claim_part}
 use Rattle.dt_table.specs.Apart.{Sized, pages_at, tables_at}
 use Rattle.dt_table.specs.Demands.{demand_forms}
 use Rattle.dt_table.specs.Links.{link_forms}
 use Rattle.dt_table.specs.Table.{choices, regs_at, inputs_at, words_at, access_of, first_state, rule_named, context_rules, access_rules, Built, with_forms, contexts_built, access_built, accesses_built, wish_forms, page_forms, keep_forms, list_forms, claim_forms, list_access}
-use Rattle.dt_table.specs.Extras.{lives, dead_forms, none_pass, sure_forms, allows, extras_of, all_extras}
+use Rattle.dt_reach.specs.declared.ways.Ways.{Ways}
+use Rattle.dt_ways.specs.Ways.{access_ways}
+use Rattle.dt_reach.specs.Reach.{is_live, none_pass}
+use Rattle.dt_table.specs.Extras.{dead_forms, sure_forms, extras_of, all_extras}
 use Rattle.dt_table.proofs.Accesses.{length_outs}
 use Rattle.dt_table.proofs.Ready.{IsReady, access_left, reads_in, reads_in_nodes}
 use Rattle.dt_table.proofs.FineTrees.{AreSized, tree_fine, tree_size}
@@ -226,18 +230,21 @@ pub record IsAsked (d : ModelData) (r : Requests) : Type 0 where
   pub links : AllByRecursion (IsLink d (length r.accesses)) r.links
   pub kept : AllByRecursion (λ (k : KeptRange). k.hi ≤ 2 ^ d.address) r.kept
 
-pub claims_fine : (d : ModelData) (r : Requests) (terms : List Term) (oss : List (List Out)) → IsModel d → IsAsked d r → AreChosen terms d r → AllByRecursion (AreOutsSized d terms) oss → length oss ≡ length r.accesses → AreFine terms (claim_forms d r oss)
-claims_fine d r terms oss model asked h o n =
+every_fine : (d : ModelData) (r : Requests) (terms : List Term) (oss : List (List Out)) → IsModel d → IsAsked d r → AreChosen terms d r → AllByRecursion (AreOutsSized d terms) oss → length oss ≡ length r.accesses → AreFine terms (every_claim d r oss)
+every_fine d r terms oss model asked h o n =
     let a = list_access d r in
     let bits : AreBits terms a = record { zero_is = h.zero_is; one_is = h.one_is; wide = model.wide.address } in
-    let pages = flat_map (pages_at (steps d)) oss in
-    let tables = flat_map (tables_at (steps d)) oss in
-    let links = flat_map (link_forms d a oss) r.links in
-    fine_append terms (pair_forms (flat_map (reads_of (steps d)) oss)) (list_forms d r oss) (pairs_fine d.address d.word terms (flat_map (reads_of (steps d)) oss) (flat_reads d terms oss o))
-    (fine_append terms (wish_forms d r 0 r.accesses oss) (links ++ (page_forms d r oss ++ keep_forms d r oss)) (wishes_fine d r terms r.accesses oss 0 model h o asked.contexts asked.demands (omega arith))
-    (fine_append terms links (page_forms d r oss ++ keep_forms d r oss) (links_fine d a terms oss r.links refl bits o (subst (λ (m : ℕ). AllByRecursion (IsLink d m) r.links) (sym n) asked.links))
-    (fine_append terms (page_forms d r oss) (keep_forms d r oss) (aparts_fine d.word terms a pages tables bits (flat_pages d terms oss o) (flat_tables d terms oss o))
+    let pages = pages_in d oss in
+    let tables = tables_in d oss in
+    let links = flat_map (every_link d a oss) r.links in
+    fine_append terms (every_pair (reads_among d oss)) (every_list d r oss) (pairs_fine d.address d.word terms (reads_among d oss) (flat_reads d terms oss o))
+    (fine_append terms (wish_forms d r 0 r.accesses oss) (links ++ (every_block d r oss ++ every_keep d r oss)) (wishes_fine d r terms r.accesses oss 0 model h o asked.contexts asked.demands (omega arith))
+    (fine_append terms links (every_block d r oss ++ every_keep d r oss) (links_fine d a terms oss r.links refl bits o (subst (λ (m : ℕ). AllByRecursion (IsLink d m) r.links) (sym n) asked.links))
+    (fine_append terms (every_block d r oss) (every_keep d r oss) (aparts_fine d.word terms a pages tables bits (flat_pages d terms oss o) (flat_tables d terms oss o))
     (keeps_fine d.word terms a pages tables r.kept bits (flat_pages d terms oss o) (flat_tables d terms oss o) asked.kept))))
+
+pub claims_fine : (d : ModelData) (r : Requests) (terms : List Term) (oss : List (List Out)) → IsModel d → IsAsked d r → AreChosen terms d r → AllByRecursion (AreOutsSized d terms) oss → length oss ≡ length r.accesses → AreFine terms (claim_forms d r oss)
+claims_fine d r terms oss model asked h o n = (claim_part d r oss).all _ (every_fine d r terms oss model asked h o n)
 
 -- ---- further forms
 
@@ -250,7 +257,7 @@ dead_fine address word terms live (p ∷ ps) (o ∷ os) n e h = by_live (live n)
     by_live true g = g
     by_live false g = (term_fine terms o.away 1 h.0.away, g)
 
-sure_fine : (address word : ℕ) (terms : List Term) (live : ℕ → Bool) (all ps : List ActData) (os : List Out) (n : ℕ) → length os ≡ length ps → AllOuts (IsOutSized address word terms) ps os → AreFine terms (sure_forms live all os n)
+sure_fine : (address word : ℕ) (terms : List Term) (live : ℕ → Bool) (all : List Ways) (ps : List ActData) (os : List Out) (n : ℕ) → length os ≡ length ps → AllOuts (IsOutSized address word terms) ps os → AreFine terms (sure_forms live all os n)
 sure_fine address word terms live all ps [] n e h = tt
 sure_fine address word terms live all [] (o ∷ os) n e h = absurd (omega (arith, e))
 sure_fine address word terms live all (p ∷ ps) (o ∷ os) n e h = by_sure (none_pass live all 0 n) (sure_fine address word terms live all ps os (n + 1) (omega (arith, e)) h.1)
@@ -259,14 +266,14 @@ sure_fine address word terms live all (p ∷ ps) (o ∷ os) n e h = by_sure (non
     by_sure true g = (term_fine terms o.come 1 h.0.come, g)
     by_sure false g = g
 
-pub extras_fine : (d : ModelData) (terms : List Term) (wishes : List AccessWish) (oss : List (List Out)) → AllByRecursion (AreOutsSized d terms) oss → AreFine terms (all_extras (steps d) wishes oss)
-extras_fine d terms [] oss h = tt
-extras_fine d terms (a ∷ more) [] h = tt
-extras_fine d terms (a ∷ more) (os ∷ oss) h =
-    let live = lives (allows a.demands) (steps d) 0 in
-    fine_append terms (extras_of live (steps d) os) (all_extras (steps d) more oss)
-    (fine_append terms (dead_forms live os 0) (sure_forms live (steps d) os 0) (dead_fine d.address d.word terms live (steps d) os 0 h.0.count h.0.outs) (sure_fine d.address d.word terms live (steps d) (steps d) os 0 h.0.count h.0.outs))
-    (extras_fine d terms more oss h.1)
+pub extras_fine : (d : ModelData) (r : Requests) (terms : List Term) (k : ℕ) (oss : List (List Out)) → AllByRecursion (AreOutsSized d terms) oss → AreFine terms (all_extras d r k oss)
+extras_fine d r terms k [] h = tt
+extras_fine d r terms k (os ∷ oss) h =
+    let ws = access_ways d r k in
+    let live = is_live ws in
+    fine_append terms (extras_of ws os) (all_extras d r (k + 1) oss)
+    (fine_append terms (dead_forms live os 0) (sure_forms live ws os 0) (dead_fine d.address d.word terms live (steps d) os 0 h.0.count h.0.outs) (sure_fine d.address d.word terms live ws (steps d) os 0 h.0.count h.0.outs))
+    (extras_fine d r terms (k + 1) oss h.1)
 
 dead_size : (live : ℕ → Bool) (os : List Out) (n : ℕ) → forms_size (dead_forms live os n) ≡ 0
 dead_size live [] n = refl
@@ -276,23 +283,23 @@ dead_size live (o ∷ os) n = by_live (live n) (dead_size live os (n + 1))
     by_live true g = g
     by_live false g = omega (arith, g)
 
-sure_size : (live : ℕ → Bool) (ps : List ActData) (os : List Out) (n : ℕ) → forms_size (sure_forms live ps os n) ≡ 0
-sure_size live ps [] n = refl
-sure_size live ps (o ∷ os) n = by_sure (none_pass live ps 0 n) (sure_size live ps os (n + 1))
+sure_size : (live : ℕ → Bool) (ws : List Ways) (os : List Out) (n : ℕ) → forms_size (sure_forms live ws os n) ≡ 0
+sure_size live ws [] n = refl
+sure_size live ws (o ∷ os) n = by_sure (none_pass live ws 0 n) (sure_size live ws os (n + 1))
   where
-    by_sure : (b : Bool) → forms_size (sure_forms live ps os (n + 1)) ≡ 0 → forms_size (cond b (term o.come ∷ sure_forms live ps os (n + 1)) (sure_forms live ps os (n + 1))) ≡ 0
+    by_sure : (b : Bool) → forms_size (sure_forms live ws os (n + 1)) ≡ 0 → forms_size (cond b (term o.come ∷ sure_forms live ws os (n + 1)) (sure_forms live ws os (n + 1))) ≡ 0
     by_sure true g = omega (arith, g)
     by_sure false g = g
 
 -- they take no terms
-pub extras_size : (ps : List ActData) (wishes : List AccessWish) (oss : List (List Out)) → forms_size (all_extras ps wishes oss) ≡ 0
-extras_size ps [] oss = refl
-extras_size ps (a ∷ more) [] = refl
-extras_size ps (a ∷ more) (os ∷ oss) =
-    let live = lives (allows a.demands) ps 0 in
-    let s = size_append (extras_of live ps os) (all_extras ps more oss) in
-    let t = size_append (dead_forms live os 0) (sure_forms live ps os 0) in
+pub extras_size : (d : ModelData) (r : Requests) (k : ℕ) (oss : List (List Out)) → forms_size (all_extras d r k oss) ≡ 0
+extras_size d r k [] = refl
+extras_size d r k (os ∷ oss) =
+    let ws = access_ways d r k in
+    let live = is_live ws in
+    let s = size_append (extras_of ws os) (all_extras d r (k + 1) oss) in
+    let t = size_append (dead_forms live os 0) (sure_forms live ws os 0) in
     let x = dead_size live os 0 in
-    let z = sure_size live ps os 0 in
-    let y = extras_size ps more oss in
+    let z = sure_size live ws os 0 in
+    let y = extras_size d r (k + 1) oss in
     omega (arith, s, t, x, y, z)

@@ -20,11 +20,13 @@ use Rattle.dt_forms.specs.Sizes.{form_size}
 use Rattle.dt_forms.proofs.Fine.{forms_size, size_append, size_map, size_flat, mul_more}
 use Rattle.dt_table.specs.declared.out.Out.{Out}
 use Rattle.dt_table.specs.Passing.{Access}
-use Rattle.dt_table.specs.Claims.{is_end, ends_done, ends_fault, ends_page, ends_only, pair_form, pair_forms, reads_of}
-use Rattle.dt_table.specs.Apart.{Sized, same_block, apart_form, apart_forms, pages_at, tables_at}
-use Rattle.dt_table.specs.Kept.{touches_form, kept_form, kept_forms}
+use Rattle.dt_table.specs.Claims.{ends_only, pair_form, reads_of}
+use Rattle.dt_ways.specs.Ends.{is_end, ends_done, ends_fault, ends_page}
+use Rattle.dt_table.specs.Apart.{Sized, same_block, apart_form, pages_at, tables_at}
+use Rattle.dt_table.specs.Kept.{touches_form, kept_form}
 use Rattle.dt_table.specs.Demands.{result_form, quantity_forms, is_masked_form, is_within_form, quantity_width, demand_forms}
-use Rattle.dt_table.specs.Links.{outs_of, side_at, one_block, one_page, pages_forms, link_forms}
+use Rattle.dt_table.specs.Links.{outs_of, side_at, one_block, one_page}
+use Rattle.dt_table.proofs.Every.{every_pair, every_apart, every_kept, every_page, every_link}
 use Rattle.dt_table.specs.Outs.{out_at}
 use Rattle.dt_table.specs.Table.{access_of, wish_forms}
 use Rattle.dt_table.proofs.Ready.{reads_in}
@@ -87,17 +89,17 @@ block_size a e s t = by_size (leb a.address e)
 apart_size : (a : Access) (key : Out → ℕ) (x y : Sized) → form_size (apart_form a key x y) ≤ 6
 apart_size a key x y = let h = block_size a (max x.exponent y.exponent) x.out.value y.out.value in omega (arith, h)
 
-pub aparts_size : (a : Access) (pages tables : List Sized) → forms_size (apart_forms a pages tables) ≤ length pages * (length tables * 6)
+pub aparts_size : (a : Access) (pages tables : List Sized) → forms_size (every_apart a pages tables) ≤ length pages * (length tables * 6)
 aparts_size a pages tables =
     size_flat (λ (p : Sized). map (apart_form a (λ (o : Out). o.by_then) p) tables) (length tables * 6) (λ x. size_map (apart_form a (λ (o : Out). o.by_then) x) 6 (λ y. apart_size a (λ (o : Out). o.by_then) x y) tables) pages
 
 -- ---- reads at one cell
 
-pub pairs_size : (os : List Out) → forms_size (pair_forms os) ≤ length os * (length os * 6)
+pub pairs_size : (os : List Out) → forms_size (every_pair os) ≤ length os * (length os * 6)
 pairs_size [] = omega arith
 pairs_size (o ∷ os) =
     let n = length os in
-    let a = size_append (map (pair_form o) os) (pair_forms os) in
+    let a = size_append (map (pair_form o) os) (every_pair os) in
     let b = size_map (pair_form o) 6 (λ q. omega arith) os in
     let c = pairs_size os in
     let d = mul_more n (n * 6) in
@@ -117,7 +119,7 @@ touches_size a e k t = by_size (leb a.address e)
 kept_size : (a : Access) (k : KeptRange) (key : Out → ℕ) (x : Sized) → form_size (kept_form a k key x) ≤ 11
 kept_size a k key x = let h = touches_size a x.exponent k x.out.value in omega (arith, h)
 
-range_size : (a : Access) (pages tables : List Sized) (k : KeptRange) → forms_size (kept_forms a pages tables k) ≤ length pages * 11 + length tables * 11
+range_size : (a : Access) (pages tables : List Sized) (k : KeptRange) → forms_size (every_kept a pages tables k) ≤ length pages * 11 + length tables * 11
 range_size a pages tables k = by_range (ltb k.lo k.hi)
   where
     by_range : (c : Bool) → forms_size (cond c (map (kept_form a k (λ (o : Out). o.come)) pages ++ map (kept_form a k (λ (o : Out). o.by_then)) tables) []) ≤ length pages * 11 + length tables * 11
@@ -128,8 +130,8 @@ range_size a pages tables k = by_range (ltb k.lo k.hi)
         omega (arith, s, x, y)
     by_range false = omega arith
 
-pub keeps_size : (a : Access) (pages tables : List Sized) (ks : List KeptRange) → forms_size (flat_map (kept_forms a pages tables) ks) ≤ length ks * (length pages * 11 + length tables * 11)
-keeps_size a pages tables ks = size_flat (kept_forms a pages tables) (length pages * 11 + length tables * 11) (range_size a pages tables) ks
+pub keeps_size : (a : Access) (pages tables : List Sized) (ks : List KeptRange) → forms_size (flat_map (every_kept a pages tables) ks) ≤ length ks * (length pages * 11 + length tables * 11)
+keeps_size a pages tables ks = size_flat (every_kept a pages tables) (length pages * 11 + length tables * 11) (range_size a pages tables) ks
 
 -- ---- demands
 
@@ -194,7 +196,7 @@ one_page_size a x y = by_size (eqb x.exponent y.exponent)
     by_size true = let h = block_size a x.exponent x.out.value y.out.value in omega (arith, h)
     by_size false = omega arith
 
-pages_size : (d : ModelData) (form : Sized → Sized → Form) (os others : List Out) → ((x y : Sized) → form_size (form x y) ≤ 6) → forms_size (pages_forms d form os others) ≤ dones_in (steps d) * (dones_in (steps d) * 6)
+pages_size : (d : ModelData) (form : Sized → Sized → Form) (os others : List Out) → ((x y : Sized) → form_size (form x y) ≤ 6) → forms_size (every_page d form os others) ≤ dones_in (steps d) * (dones_in (steps d) * 6)
 pages_size d form os others h =
     let xs = pages_at (steps d) os in
     let ys = pages_at (steps d) others in
@@ -207,7 +209,7 @@ pages_size d form os others h =
     let l : length xs * (length ys * 6) ≤ dones_in (steps d) * (dones_in (steps d) * 6) = mul-le-mul (pages_count (steps d) os) (mul-le-mul_right 6 (pages_count (steps d) others)) in
     omega (arith, s, t, e, f, m, l)
 
-link_size : (d : ModelData) (a : Access) (oss : List (List Out)) (link : Link) → forms_size (link_forms d a oss link) ≤ dones_in (steps d) * (dones_in (steps d) * 6) + 4
+link_size : (d : ModelData) (a : Access) (oss : List (List Out)) (link : Link) → forms_size (every_link d a oss link) ≤ dones_in (steps d) * (dones_in (steps d) * 6) + 4
 link_size d a oss (ShareTable s t) = let h = one_block_size a (side_at d oss s) (side_at d oss t) in omega (arith, h)
 link_size d a oss (ShareCell s t) = omega arith
 link_size d a oss (ApartTable s t) =
@@ -218,5 +220,5 @@ link_size d a oss (ApartTable s t) =
 link_size d a oss (SharePage j k) = let h = pages_size d (one_page a) (outs_of oss j) (outs_of oss k) (one_page_size a) in omega (arith, h)
 link_size d a oss (ApartPage j k) = let h = pages_size d (apart_form a (λ (o : Out). o.come)) (outs_of oss j) (outs_of oss k) (apart_size a (λ (o : Out). o.come)) in omega (arith, h)
 
-pub links_size : (d : ModelData) (a : Access) (oss : List (List Out)) (links : List Link) → forms_size (flat_map (link_forms d a oss) links) ≤ length links * (dones_in (steps d) * (dones_in (steps d) * 6) + 4)
-links_size d a oss links = size_flat (link_forms d a oss) (dones_in (steps d) * (dones_in (steps d) * 6) + 4) (link_size d a oss) links
+pub links_size : (d : ModelData) (a : Access) (oss : List (List Out)) (links : List Link) → forms_size (flat_map (every_link d a oss) links) ≤ length links * (dones_in (steps d) * (dones_in (steps d) * 6) + 4)
+links_size d a oss links = size_flat (every_link d a oss) (dones_in (steps d) * (dones_in (steps d) * 6) + 4) (link_size d a oss) links

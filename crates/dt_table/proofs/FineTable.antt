@@ -107,8 +107,8 @@ table_whole d r a h list =
     let zero_outs : length c.outs ≡ 0 = ap length (sym none) in
     let n : length b.outs ≡ length r.accesses = (let e = y.count in omega (arith, e, zero_outs)) in
     let claims = claim_forms d r b.outs ++ extra_forms d r b.outs in
-    let f = fine_append b.terms (claim_forms d r b.outs) (extra_forms d r b.outs) (claims_fine d r b.terms b.outs model asked y.onward.built_is.chosen y.outs n) (extras_fine d b.terms r.accesses b.outs y.outs) in
-    let size : forms_size claims ≤ forms_size (claim_forms d r b.outs) = (let e = size_append (claim_forms d r b.outs) (extra_forms d r b.outs) in let x = extras_size (steps d) r.accesses b.outs in omega (arith, e, x)) in
+    let f = fine_append b.terms (claim_forms d r b.outs) (extra_forms d r b.outs) (claims_fine d r b.terms b.outs model asked y.onward.built_is.chosen y.outs n) (extras_fine d r b.terms 0 b.outs y.outs) in
+    let size : forms_size claims ≤ forms_size (claim_forms d r b.outs) = (let e = size_append (claim_forms d r b.outs) (extra_forms d r b.outs) in let x = extras_size d r 0 b.outs in omega (arith, e, x)) in
     let z = forms_onward d r b claims (forms_size (claim_forms d r b.outs)) y.onward.built_is f size in
     let g = grows_on s.terms b.terms (with_forms b claims).terms (base_size d r) (forms_size (claim_forms d r b.outs)) (grows_on s.terms c.terms b.terms (length r.contexts * rules_size d.legal_context) (length r.accesses * access_size d) x.grows y.onward.grows) z.grows in
     record {

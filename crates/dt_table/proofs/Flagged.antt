@@ -9,7 +9,7 @@ use Rattle.dt_table.specs.Expressions.{form_of}
 use Rattle.dt_table.specs.declared.out.Out.{Out}
 use Rattle.dt_table.specs.Passing.{Access, State, named, with_terms, assign, fork, is_cell, passed, noted, walk_placed}
 use Rattle.dt_forms.specs.Meaning.{Valuation, IsLawful, flag, is_one}
-use Rattle.dt_table.specs.Claims.{is_end}
+use Rattle.dt_ways.specs.Ends.{is_end}
 use Rattle.dt_forms.proofs.Lawful.{flag_one}
 use Rattle.dt_forms.proofs.FormValues.{form_before}
 use Rattle.dt_table.proofs.Trees.{tree_wide}

@@ -18,7 +18,8 @@ use Rattle.dt_forms.proofs.FormValues.{not_form, both_form}
 use Rattle.dt_table.specs.declared.out.Out.{Out}
 use Rattle.dt_table.specs.Passing.{Access}
 use Rattle.dt_table.specs.Apart.{Sized}
-use Rattle.dt_table.specs.Kept.{touches_form, kept_form, kept_forms}
+use Rattle.dt_table.specs.Kept.{touches_form, kept_form}
+use Rattle.dt_table.proofs.Every.{every_kept}
 use Rattle.dt_table.proofs.Results.{come_of}
 use Rattle.dt_table.proofs.Pages.{IsBlock, block_of, blocks_made, then_of}
 
@@ -95,7 +96,7 @@ touches_value v a e t k one l within m = by_case (leb a.address e) refl ∙ ap f
 
 -- ---- one range
 
-kept_value : (v : Valuation) (a : Access) (k : KeptRange) (key : Out → ℕ) (x : Sized) → v a.one_term ≡ flag true → ((n : ℕ) → (v n).bits < 2 ^ (v n).width.0) → k.lo < k.hi → k.hi ≤ 2 ^ a.address → IsBlock v a.address key x
+pub kept_value : (v : Valuation) (a : Access) (k : KeptRange) (key : Out → ℕ) (x : Sized) → v a.one_term ≡ flag true → ((n : ℕ) → (v n).bits < 2 ^ (v n).width.0) → k.lo < k.hi → k.hi ≤ 2 ^ a.address → IsBlock v a.address key x
     → is_one (form_value v (kept_form a k key x)) ≡ not (is_one (v (key x.out)) && touches (block_of v x) k)
 kept_value v a k key x one range l within h =
     let c = is_one (v (key x.out)) in
@@ -159,7 +160,7 @@ pub record AreTold (v : Valuation) (a : Access) (ps ts : List Sized) : Type 0 wh
 abbrev Kept : Valuation → List Sized → List Sized → KeptRange → Type 0
 Kept v ps ts k = is_kept (blocks_made v come_of ps) (blocks_made v then_of ts) k ≡ true
 
-one_kept : (v : Valuation) (a : Access) (ps ts : List Sized) (k : KeptRange) → AreTold v a ps ts → k.hi ≤ 2 ^ a.address → Hold v (kept_forms a ps ts k) → Kept v ps ts k
+one_kept : (v : Valuation) (a : Access) (ps ts : List Sized) (k : KeptRange) → AreTold v a ps ts → k.hi ≤ 2 ^ a.address → Hold v (every_kept a ps ts k) → Kept v ps ts k
 one_kept v a ps ts k h within g = by_range (ltb k.lo k.hi) refl g
   where
     by_range : (b : Bool) → ltb k.lo k.hi ≡ b → Hold v (cond b (map (kept_form a k come_of) ps ++ map (kept_form a k then_of) ts) []) → Kept v ps ts k
@@ -169,7 +170,7 @@ one_kept v a ps ts k h within g = by_range (ltb k.lo k.hi) refl g
         both_false _ _ (row_kept v a k come_of ps h.one h.range l within h.page_is p.0) (row_kept v a k then_of ts h.one h.range l within h.table_is p.1)
     by_range false e f = both_false _ _ (none_touch (blocks_made v come_of ps) k e) (none_touch (blocks_made v then_of ts) k e)
 
-kept_one : (v : Valuation) (a : Access) (ps ts : List Sized) (k : KeptRange) → AreTold v a ps ts → k.hi ≤ 2 ^ a.address → Kept v ps ts k → Hold v (kept_forms a ps ts k)
+kept_one : (v : Valuation) (a : Access) (ps ts : List Sized) (k : KeptRange) → AreTold v a ps ts → k.hi ≤ 2 ^ a.address → Kept v ps ts k → Hold v (every_kept a ps ts k)
 kept_one v a ps ts k h within g = by_range (ltb k.lo k.hi) refl
   where
     by_range : (b : Bool) → ltb k.lo k.hi ≡ b → Hold v (cond b (map (kept_form a k come_of) ps ++ map (kept_form a k then_of) ts) [])
@@ -183,17 +184,17 @@ kept_one v a ps ts k h within g = by_range (ltb k.lo k.hi) refl
 -- ---- all ranges
 
 pub all_kept : (v : Valuation) (a : Access) (ps ts : List Sized) (ks : List KeptRange) → AreTold v a ps ts → AllByRecursion (λ (k : KeptRange). k.hi ≤ 2 ^ a.address) ks
-    → Hold v (flat_map (kept_forms a ps ts) ks) → AllByRecursion IsTrue (map (is_kept (blocks_made v come_of ps) (blocks_made v then_of ts)) ks)
+    → Hold v (flat_map (every_kept a ps ts) ks) → AllByRecursion IsTrue (map (is_kept (blocks_made v come_of ps) (blocks_made v then_of ts)) ks)
 all_kept v a ps ts [] h w g = tt
 all_kept v a ps ts (k ∷ ks) h w g =
-    let p = AllByRecursion-split (λ (f : Form). is_one (form_value v f) ≡ true) (kept_forms a ps ts k) (flat_map (kept_forms a ps ts) ks) g in
+    let p = AllByRecursion-split (λ (f : Form). is_one (form_value v f) ≡ true) (every_kept a ps ts k) (flat_map (every_kept a ps ts) ks) g in
     (one_kept v a ps ts k h w.0 p.0, all_kept v a ps ts ks h w.1 p.1)
 
 pub kept_all : (v : Valuation) (a : Access) (ps ts : List Sized) (ks : List KeptRange) → AreTold v a ps ts → AllByRecursion (λ (k : KeptRange). k.hi ≤ 2 ^ a.address) ks
-    → AllByRecursion IsTrue (map (is_kept (blocks_made v come_of ps) (blocks_made v then_of ts)) ks) → Hold v (flat_map (kept_forms a ps ts) ks)
+    → AllByRecursion IsTrue (map (is_kept (blocks_made v come_of ps) (blocks_made v then_of ts)) ks) → Hold v (flat_map (every_kept a ps ts) ks)
 kept_all v a ps ts [] h w g = tt
 kept_all v a ps ts (k ∷ ks) h w g =
-    AllByRecursion-append (λ (f : Form). is_one (form_value v f) ≡ true) (kept_forms a ps ts k) (flat_map (kept_forms a ps ts) ks)
+    AllByRecursion-append (λ (f : Form). is_one (form_value v f) ≡ true) (every_kept a ps ts k) (flat_map (every_kept a ps ts) ks)
     (kept_one v a ps ts k h w.0 g.0) (kept_all v a ps ts ks h w.1 g.1)
 
 -- ---- they are forms
@@ -209,13 +210,13 @@ row_form : (a : Access) (k : KeptRange) (key : Out → ℕ) (xs : List Sized) �
 row_form a k key [] = tt
 row_form a k key (x ∷ xs) = ((refl, (refl, tt, touches_has a x.exponent x.out.value k)), row_form a k key xs)
 
-one_form : (a : Access) (ps ts : List Sized) (k : KeptRange) → HaveForms (kept_forms a ps ts k)
+one_form : (a : Access) (ps ts : List Sized) (k : KeptRange) → HaveForms (every_kept a ps ts k)
 one_form a ps ts k = by_range (ltb k.lo k.hi)
   where
     by_range : (b : Bool) → HaveForms (cond b (map (kept_form a k come_of) ps ++ map (kept_form a k then_of) ts) [])
     by_range true = AllByRecursion-append HasForm (map (kept_form a k come_of) ps) (map (kept_form a k then_of) ts) (row_form a k come_of ps) (row_form a k then_of ts)
     by_range false = tt
 
-pub kept_have : (a : Access) (ps ts : List Sized) (ks : List KeptRange) → HaveForms (flat_map (kept_forms a ps ts) ks)
+pub kept_have : (a : Access) (ps ts : List Sized) (ks : List KeptRange) → HaveForms (flat_map (every_kept a ps ts) ks)
 kept_have a ps ts [] = tt
-kept_have a ps ts (k ∷ ks) = AllByRecursion-append HasForm (kept_forms a ps ts k) (flat_map (kept_forms a ps ts) ks) (one_form a ps ts k) (kept_have a ps ts ks)
+kept_have a ps ts (k ∷ ks) = AllByRecursion-append HasForm (every_kept a ps ts k) (flat_map (every_kept a ps ts) ks) (one_form a ps ts k) (kept_have a ps ts ks)

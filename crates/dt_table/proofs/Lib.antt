@@ -1,6 +1,6 @@
 pub mod Accepted
 pub mod Accesses
-pub mod Alive
+pub mod Asked
 pub mod Assigned
 pub mod Blocks
 pub mod CellValues
@@ -9,6 +9,7 @@ pub mod Composed
 pub mod Dead
 pub mod Edges
 pub mod Ends
+pub mod Every
 pub mod Extends
 pub mod FineChoices
 pub mod FineClaims
@@ -26,6 +27,7 @@ pub mod Memories
 pub mod NodeKinds
 pub mod Nodes
 pub mod Numbers
+pub mod Opened
 pub mod Oracle
 pub mod Outs
 pub mod Pages
@@ -40,11 +42,12 @@ pub mod Satisfying
 pub mod Sides
 pub mod Solving
 pub mod Stand
-pub mod Sure
 pub mod TableMemory
 pub mod Theorem
 pub mod Told
 pub mod Trees
 pub mod Visits
+pub mod Walked
 pub mod Whole
+pub mod Wide
 pub mod Words

@@ -33,9 +33,11 @@ use Rattle.dt_forms.proofs.Tells.{Tells, more_tell, one_tells, tells_as, both_te
 use Rattle.dt_table.specs.declared.out.Out.{Out}
 use Rattle.dt_table.specs.Passing.{Access}
 use Rattle.dt_table.specs.Told.{told}
-use Rattle.dt_table.specs.Claims.{ends_done, ends_only}
+use Rattle.dt_table.specs.Claims.{ends_only}
+use Rattle.dt_ways.specs.Ends.{ends_done}
 use Rattle.dt_table.specs.Apart.{Sized, same_block, apart_form, pages_at}
-use Rattle.dt_table.specs.Links.{outs_of, side_at, reads_forms, one_block, apart_blocks, one_cell, one_page, pages_forms, link_forms}
+use Rattle.dt_table.specs.Links.{outs_of, side_at, reads_forms, one_block, apart_blocks, one_cell, one_page}
+use Rattle.dt_table.proofs.Every.{every_page, every_link}
 use Rattle.dt_table.specs.Table.{list_access}
 use Rattle.dt_table.proofs.Blocks.{same_block_value}
 use Rattle.dt_table.proofs.Ends.{ends_tell}
@@ -88,7 +90,7 @@ one_block_value v a x y fit h = by_size (eqb x.exponent y.exponent) refl
     by_size true q = quotients_value v a x.exponent x y fit h ∙ ap flag (same_sized v x y q)
     by_size false q = fit.zero_is ∙ ap flag (sym (other_sized v x y q))
 
-one_page_value : (v : Valuation) (a : Access) (x y : Sized) → AreFit v a → IsBlock v a.address come_of x → IsBlock v a.address come_of y
+pub one_page_value : (v : Valuation) (a : Access) (x y : Sized) → AreFit v a → IsBlock v a.address come_of x → IsBlock v a.address come_of y
     → is_one (form_value v (one_page a x y)) ≡ (not (is_one (v x.out.come) && is_one (v y.out.come)) || is_block (block_of v x) (block_of v y))
 one_page_value v a x y fit h k = by_size (eqb x.exponent y.exponent) refl
   where
@@ -120,7 +122,7 @@ runs v d oss = map (λ os. told v (steps d) os 0) oss
 run_at : (v : Valuation) (d : ModelData) (oss : List (List Out)) (k : ℕ) → k < length oss → slice_get (runs v d oss) k ≡ Some (told v (steps d) (outs_of oss k) 0)
 run_at v d oss k l = slice_get-map (λ (os : List Out). told v (steps d) os 0) oss k ∙ ap (option_map (λ (os : List Out). told v (steps d) os 0)) (slice_get-get_or oss k [] l)
 
-nodes_at : (v : Valuation) (d : ModelData) (oss : List (List Out)) (k : ℕ) → AllNodes v d oss → k < length oss → AreNodes v d (outs_of oss k)
+pub nodes_at : (v : Valuation) (d : ModelData) (oss : List (List Out)) (k : ℕ) → AllNodes v d oss → k < length oss → AreNodes v d (outs_of oss k)
 nodes_at v d [] k h l = absurd (omega (arith, l))
 nodes_at v d (os ∷ oss) zero h l = h.0
 nodes_at v d (os ∷ oss) (suc k) h l = nodes_at v d oss k h.1 (omega (arith, l))
@@ -189,7 +191,7 @@ both_pages test (Fault n c) (Done m pb other) = refl
 both_pages test (Fault n c) (Fault m b) = refl
 
 pages_tell : (v : Valuation) (d : ModelData) (oss : List (List Out)) (j k : ℕ) (form : Sized → Sized → Form) (test : Block → Block → Bool) → AllNodes v d oss → j < length oss → k < length oss
-    → PairsTell v come_of form test (pages_at (steps d) (outs_of oss j)) (pages_at (steps d) (outs_of oss k)) → Tells v (pages_forms d form (outs_of oss j) (outs_of oss k)) (both test (page_in (runs v d oss) j) (page_in (runs v d oss) k))
+    → PairsTell v come_of form test (pages_at (steps d) (outs_of oss j)) (pages_at (steps d) (outs_of oss k)) → Tells v (every_page d form (outs_of oss j) (outs_of oss k)) (both test (page_in (runs v d oss) j) (page_in (runs v d oss) k))
 pages_tell v d oss j k form test nodes l m p =
     let ps = steps d in
     let os = outs_of oss j in
@@ -202,7 +204,7 @@ pages_tell v d oss j k form test nodes l m p =
     let ys = pages_at ps others in
     let all = all_pairs test (blocks_made v come_of xs) (blocks_made v come_of ys) in
     let rows = flat_map (λ (x : Sized). map (form x) ys) xs in
-    tells_as v (pages_forms d form os others) (is_done e && (is_done f && all)) _
+    tells_as v (every_page d form os others) (is_done e && (is_done f && all)) _
     (ap (λ (l : List Block). is_done e && (is_done f && all_pairs test l (blocks_made v come_of ys))) (sym (page_told block_at v ps os 0 own.ends))
     ∙ ap (λ (l : List Block). is_done e && (is_done f && all_pairs test (option_to_list (page_of e)) l)) (sym (page_told block_at v ps others 0 other.ends))
     ∙ both_pages test e f
@@ -226,7 +228,7 @@ pages_are v d oss k nodes l = pages_flagged v d.address (steps d) (outs_of oss k
 -- ---- links
 
 link_tells : (v : Valuation) (d : ModelData) (r : Requests) (oss : List (List Out)) (link : Link) → AreFit v (list_access d r) → AllNodes v d oss → IsLink d (length oss) link
-    → Tells v (link_forms d (list_access d r) oss link) (link_holds (steps d) (runs v d oss) link)
+    → Tells v (every_link d (list_access d r) oss link) (link_holds (steps d) (runs v d oss) link)
 link_tells v d r oss (ShareTable s t) fit nodes h =
     let a = list_access d r in
     let x = side_told v d oss s nodes h.0 in
@@ -251,15 +253,15 @@ link_tells v d r oss (ApartPage j k) fit nodes h =
     pages_tell v d oss j k (apart_form a come_of) is_apart nodes h.0 h.1 (pairs_apart v a come_of (pages_at (steps d) (outs_of oss j)) (pages_at (steps d) (outs_of oss k)) fit (pages_are v d oss j nodes h.0) (pages_are v d oss k nodes h.1))
 
 each_link : (v : Valuation) (d : ModelData) (r : Requests) (oss : List (List Out)) (links : List Link) → AreFit v (list_access d r) → AllNodes v d oss → AllByRecursion (IsLink d (length oss)) links
-    → AllByRecursion (λ (l : Link). Tells v (link_forms d (list_access d r) oss l) (link_holds (steps d) (runs v d oss) l)) links
+    → AllByRecursion (λ (l : Link). Tells v (every_link d (list_access d r) oss l) (link_holds (steps d) (runs v d oss) l)) links
 each_link v d r oss [] fit nodes h = tt
 each_link v d r oss (l ∷ ls) fit nodes h = (link_tells v d r oss l fit nodes h.0, each_link v d r oss ls fit nodes h.1)
 
 -- the forms of the links tell their claims
 pub links_tell : (v : Valuation) (d : ModelData) (r : Requests) (m : Memory) (oss : List (List Out)) → AreSet v d r → HaveContexts r r.accesses → AllByRecursion (IsLink d (length oss)) r.links → AllNodes v d oss → AllTold v d r m 0 r.accesses oss
-    → TellAll v (flat_map (link_forms d (list_access d r) oss) r.links) (link_claims d r (seen v d r m))
+    → TellAll v (flat_map (every_link d (list_access d r) oss) r.links) (link_claims d r (seen v d r m))
 links_tell v d r m oss set c links nodes all =
     let e : runs_of d (seen v d r m) ≡ runs v d oss = runs_told v d r m r.accesses oss 0 c all in
-    tell_as v (flat_map (link_forms d (list_access d r) oss) r.links) (map (link_holds (steps d) (runs v d oss)) r.links) (link_claims d r (seen v d r m))
+    tell_as v (flat_map (every_link d (list_access d r) oss) r.links) (map (link_holds (steps d) (runs v d oss)) r.links) (link_claims d r (seen v d r m))
     (ap (λ (l : List RunData). map (link_holds (steps d) l) r.links) (sym e))
-    (each_tells v (link_forms d (list_access d r) oss) (link_holds (steps d) (runs v d oss)) r.links (each_link v d r oss r.links (fit_from v d r set) nodes links))
+    (each_tells v (every_link d (list_access d r) oss) (link_holds (steps d) (runs v d oss)) r.links (each_link v d r oss r.links (fit_from v d r set) nodes links))

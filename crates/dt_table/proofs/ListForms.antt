@@ -17,11 +17,13 @@ use Rattle.dt_request.specs.declared.list.Quantity.TheVariants.{Reg, Input, Word
 use Rattle.dt_forms.specs.Forms.{Form, HasForm, HaveForms, term, form1, not_of, both_of, implies, same_of}
 use Rattle.dt_table.specs.declared.out.Out.{Out}
 use Rattle.dt_table.specs.Passing.{Access}
-use Rattle.dt_table.specs.Claims.{is_end, ends_done, ends_fault, ends_page, ends_only, pair_form, pair_forms, reads_of}
-use Rattle.dt_table.specs.Apart.{Sized, same_block, apart_form, apart_forms, pages_at, tables_at}
+use Rattle.dt_table.specs.Claims.{ends_only, pair_form}
+use Rattle.dt_ways.specs.Ends.{is_end, ends_done, ends_fault, ends_page}
+use Rattle.dt_table.specs.Apart.{Sized, same_block, apart_form, pages_at}
 use Rattle.dt_table.specs.Demands.{result_form, quantity_forms, is_masked_form, is_within_form, quantity_width, demand_forms}
-use Rattle.dt_table.specs.Links.{outs_of, side_at, one_block, one_page, pages_forms, link_forms}
-use Rattle.dt_table.specs.Table.{access_of, list_access, wish_forms, page_forms, keep_forms, list_forms, claim_forms, extra_forms}
+use Rattle.dt_table.specs.Links.{outs_of, side_at, one_block, one_page}
+use Rattle.dt_table.specs.Table.{access_of, list_access, wish_forms, claim_forms, extra_forms}
+use Rattle.dt_table.proofs.Every.{every_pair, every_apart, every_page, every_link, every_block, every_keep, every_list, every_claim, pages_in, tables_in, reads_among, claim_part}
 use Rattle.dt_table.proofs.Kept.{kept_have}
 use Rattle.dt_table.proofs.Dead.{dead_have}
 
@@ -74,9 +76,9 @@ wishes_form d r (a ∷ more) (os ∷ oss) k =
 
 -- ---- reads at one cell
 
-pairs_form : (os : List Out) → HaveForms (pair_forms os)
+pairs_form : (os : List Out) → HaveForms (every_pair os)
 pairs_form [] = tt
-pairs_form (o ∷ os) = AllByRecursion-append HasForm (map (pair_form o) os) (pair_forms os) (each_form (pair_form o) (λ x. (refl, (refl, (refl, (refl, tt, tt), (refl, tt, tt))), (refl, tt, tt))) os) (pairs_form os)
+pairs_form (o ∷ os) = AllByRecursion-append HasForm (map (pair_form o) os) (every_pair os) (each_form (pair_form o) (λ x. (refl, (refl, (refl, (refl, tt, tt), (refl, tt, tt))), (refl, tt, tt))) os) (pairs_form os)
 
 -- ---- blocks
 
@@ -90,7 +92,7 @@ block_form a e s t = by_size (leb a.address e)
 apart_has : (a : Access) (key : Out → ℕ) (x y : Sized) → HasForm (apart_form a key x y)
 apart_has a key x y = (refl, (refl, (refl, tt, tt), block_form a (max x.exponent y.exponent) x.out.value y.out.value))
 
-aparts_form : (a : Access) (pages tables : List Sized) → HaveForms (apart_forms a pages tables)
+aparts_form : (a : Access) (pages tables : List Sized) → HaveForms (every_apart a pages tables)
 aparts_form a pages tables = all_forms (λ (p : Sized). map (apart_form a (λ (o : Out). o.by_then) p) tables) (λ p. each_form (apart_form a (λ (o : Out). o.by_then) p) (apart_has a (λ (o : Out). o.by_then) p) tables) pages
 
 -- ---- links
@@ -109,14 +111,14 @@ one_page_has a x y = by_size (eqb x.exponent y.exponent)
     by_size true = (refl, (refl, (refl, tt, tt)), block_form a x.exponent x.out.value y.out.value)
     by_size false = (refl, (refl, tt, tt))
 
-pages_have : (d : ModelData) (form : Sized → Sized → Form) (os others : List Out) → ((x y : Sized) → HasForm (form x y)) → HaveForms (pages_forms d form os others)
+pages_have : (d : ModelData) (form : Sized → Sized → Form) (os others : List Out) → ((x y : Sized) → HasForm (form x y)) → HaveForms (every_page d form os others)
 pages_have d form os others h =
     let rows = flat_map (λ (x : Sized). map (form x) (pages_at (steps d) others)) (pages_at (steps d) os) in
     AllByRecursion-append HasForm (ends_only ends_done (steps d) os) (ends_only ends_done (steps d) others ++ rows) (ends_form ends_done (steps d) os)
     (AllByRecursion-append HasForm (ends_only ends_done (steps d) others) rows (ends_form ends_done (steps d) others)
     (all_forms (λ (x : Sized). map (form x) (pages_at (steps d) others)) (λ x. each_form (form x) (h x) (pages_at (steps d) others)) (pages_at (steps d) os)))
 
-link_form : (d : ModelData) (a : Access) (oss : List (List Out)) (link : Link) → HaveForms (link_forms d a oss link)
+link_form : (d : ModelData) (a : Access) (oss : List (List Out)) (link : Link) → HaveForms (every_link d a oss link)
 link_form d a oss (ShareTable s t) = (tt, (tt, (one_block_has a (side_at d oss s) (side_at d oss t), tt)))
 link_form d a oss (ShareCell s t) = (tt, (tt, ((refl, tt, tt), tt)))
 link_form d a oss (ApartTable s t) = (tt, (tt, ((refl, block_form a (max (side_at d oss s).exponent (side_at d oss t).exponent) (side_at d oss s).out.value (side_at d oss t).out.value), tt)))
@@ -125,15 +127,15 @@ link_form d a oss (ApartPage j k) = pages_have d (apart_form a (λ (o : Out). o.
 
 -- ---- all claims
 
-pub claims_form : (d : ModelData) (r : Requests) (oss : List (List Out)) → HaveForms (claim_forms d r oss ++ extra_forms d r oss)
-claims_form d r oss =
+every_form : (d : ModelData) (r : Requests) (oss : List (List Out)) → HaveForms (every_claim d r oss)
+every_form d r oss =
     let a = list_access d r in
-    let pages = flat_map (pages_at (steps d)) oss in
-    let tables = flat_map (tables_at (steps d)) oss in
-    let links = flat_map (link_forms d a oss) r.links in
-    AllByRecursion-append HasForm (claim_forms d r oss) (extra_forms d r oss) (
-    AllByRecursion-append HasForm (pair_forms (flat_map (reads_of (steps d)) oss)) (list_forms d r oss) (pairs_form (flat_map (reads_of (steps d)) oss)) (
-    AllByRecursion-append HasForm (wish_forms d r 0 r.accesses oss) (links ++ (page_forms d r oss ++ keep_forms d r oss)) (wishes_form d r r.accesses oss 0) (
-    AllByRecursion-append HasForm links (page_forms d r oss ++ keep_forms d r oss) (all_forms (link_forms d a oss) (link_form d a oss) r.links) (
-    AllByRecursion-append HasForm (page_forms d r oss) (keep_forms d r oss) (aparts_form a pages tables) (kept_have a pages tables r.kept)
-    )))) (dead_have (steps d) r.accesses oss)
+    let links = flat_map (every_link d a oss) r.links in
+    AllByRecursion-append HasForm (every_pair (reads_among d oss)) (every_list d r oss) (pairs_form (reads_among d oss)) (
+    AllByRecursion-append HasForm (wish_forms d r 0 r.accesses oss) (links ++ (every_block d r oss ++ every_keep d r oss)) (wishes_form d r r.accesses oss 0) (
+    AllByRecursion-append HasForm links (every_block d r oss ++ every_keep d r oss) (all_forms (every_link d a oss) (link_form d a oss) r.links) (
+    AllByRecursion-append HasForm (every_block d r oss) (every_keep d r oss) (aparts_form a (pages_in d oss) (tables_in d oss)) (kept_have a (pages_in d oss) (tables_in d oss) r.kept)
+    )))
+
+pub claims_form : (d : ModelData) (r : Requests) (oss : List (List Out)) → HaveForms (claim_forms d r oss ++ extra_forms d r oss)
+claims_form d r oss = AllByRecursion-append HasForm (claim_forms d r oss) (extra_forms d r oss) ((claim_part d r oss).all HasForm (every_form d r oss)) (dead_have d r 0 oss)

@@ -3,7 +3,7 @@ use Rattle.std.proofs.Common.{◌≡◌, ℕ, zero, suc, ◌+◌, ◌<◌, ◌�
 use Rattle.std.specs.Prelude.{slice_get, slice_index, IsSome, is_some, unwrap_or}
 use Rattle.std.proofs.lemmas.Bool.{false≢true, ne_eqb, eq-eqb, eqb-true, eqb-false, cases_Bool, and_left, and_right}
 use Rattle.dt_walk.specs.declared.run.End.{End}
-use Rattle.dt_table.specs.Claims.{is_end}
+use Rattle.dt_ways.specs.Ends.{is_end}
 use Rattle.dt_table.proofs.Ends.{EndsBy, NoEnd, EndsOnce}
 use Rattle.dt_bits.specs.declared.value.Bv.{Bv}
 use Rattle.dt_model.specs.ModelData.{Tree, ActData, bind, read, branch, fault, done}

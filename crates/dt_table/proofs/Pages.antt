@@ -20,7 +20,8 @@ use Rattle.dt_table.specs.declared.out.Out.{Out}
 use Rattle.dt_table.specs.Passing.{Access}
 use Rattle.dt_table.specs.Told.{told, told_step, made_if}
 use Rattle.dt_table.specs.Apart.{same_block, apart_form, Sized, pages_at, tables_at}
-use Rattle.dt_table.specs.Table.{page_forms, list_access}
+use Rattle.dt_table.specs.Table.{list_access}
+use Rattle.dt_table.proofs.Every.{every_block}
 use Rattle.dt_forms.proofs.Lawful.{flag_one}
 use Rattle.dt_forms.proofs.FormValues.{not_form, both_form}
 use Rattle.dt_forms.proofs.Tells.{Tells, none_tells, more_tell, tells_as, both_tell}
@@ -240,11 +241,11 @@ pub fit_from : (v : Valuation) (d : ModelData) (r : Requests) → AreSet v d r �
 fit_from v d r set = record { one_is = set.one_is; zero_is = set.zero_is; range = set.range }
 
 -- the forms tell whether the claim holds
-pub pages_tell : (v : Valuation) (d : ModelData) (r : Requests) (m : Memory) (oss : List (List Out)) → AreSet v d r → HaveContexts r r.accesses → AllNodes v d oss → AllTold v d r m 0 r.accesses oss → Tells v (page_forms d r oss) (apart_claim d (seen v d r m))
+pub pages_tell : (v : Valuation) (d : ModelData) (r : Requests) (m : Memory) (oss : List (List Out)) → AreSet v d r → HaveContexts r r.accesses → AllNodes v d oss → AllTold v d r m 0 r.accesses oss → Tells v (every_block d r oss) (apart_claim d (seen v d r m))
 pages_tell v d r m oss set c nodes all =
     let b = all_blocks v d oss nodes in
     let xs = flat_map (pages_at (steps d)) oss in
     let ys = flat_map (tables_at (steps d)) oss in
     let a = list_access d r in
-    tells_as v (page_forms d r oss) (all_pairs is_apart (blocks_made v come_of xs) (blocks_made v then_of ys)) (apart_claim d (seen v d r m)) (sym (claim_is v d r m oss c all b))
+    tells_as v (every_block d r oss) (all_pairs is_apart (blocks_made v come_of xs) (blocks_made v then_of ys)) (apart_claim d (seen v d r m)) (sym (claim_is v d r m oss c all b))
     (pairs_tell v then_of (apart_form a then_of) is_apart xs ys (pairs_apart v a then_of xs ys (fit_from v d r set) b.page_is b.table_is))

@@ -6,7 +6,8 @@ use Rattle.dt_walk.specs.declared.run.ReadMade.{ReadMade}
 use Rattle.dt_table.specs.declared.out.Out.{Out}
 use Rattle.dt_forms.specs.Meaning.{Valuation, flag, is_one}
 use Rattle.dt_forms.specs.Forms.{Form, term, form_value, both_of, same_of}
-use Rattle.dt_table.specs.Claims.{pair_form, pair_forms}
+use Rattle.dt_table.specs.Claims.{pair_form}
+use Rattle.dt_table.proofs.Every.{every_pair}
 use Rattle.dt_forms.proofs.Lawful.{flag_one}
 use Rattle.dt_forms.proofs.FormValues.{both_form, implies_form}
 use Rattle.dt_forms.specs.Claims.{Hold}
@@ -26,7 +27,7 @@ all_made v (o ∷ os) = cond (is_made v o) (read_made v o ∷ all_made v os) (al
 abbrev pub AreTold : Valuation → List Out → Type 0
 AreTold v outs = AllByRecursion (λ (o : Out). v o.by_then ≡ flag (is_made v o)) outs
 
-pair_value : (v : Valuation) (a b : Out) → v a.by_then ≡ flag (is_made v a) → v b.by_then ≡ flag (is_made v b)
+pub pair_value : (v : Valuation) (a b : Out) → v a.by_then ≡ flag (is_made v a) → v b.by_then ≡ flag (is_made v b)
     → is_one (form_value v (pair_form a b)) ≡ (not ((is_made v a && is_made v b) && eqb (v a.value).bits (v b.value).bits) || eqb (v a.word).bits (v b.word).bits)
 pair_value v a b e f =
     let both = both_of (term a.by_then) (term b.by_then) in
@@ -56,13 +57,13 @@ skip_map : (v : Valuation) (a : Out) (os : List Out) (fs : List Form) → Hold v
 skip_map v a [] fs h = h
 skip_map v a (o ∷ os) fs h = skip_map v a os fs h.1
 
-pub hold_agree : (v : Valuation) (os : List Out) → AreTold v os → Hold v (pair_forms os) → AllAgree (all_made v os)
+pub hold_agree : (v : Valuation) (os : List Out) → AreTold v os → Hold v (every_pair os) → AllAgree (all_made v os)
 hold_agree v [] t h = tt
-hold_agree v (o ∷ os) t h = by_made (is_made v o) refl (hold_agree v os t.1 (skip_map v o os (pair_forms os) h))
+hold_agree v (o ∷ os) t h = by_made (is_made v o) refl (hold_agree v os t.1 (skip_map v o os (every_pair os) h))
   where
     by_made : (b : Bool) → is_made v o ≡ b → AllAgree (all_made v os) → AllAgree (cond b (read_made v o ∷ all_made v os) (all_made v os))
     by_made false q k = k
-    by_made true q k = ((hold_map v o os (pair_forms os) q t.0 t.1 h).0, k)
+    by_made true q k = ((hold_map v o os (every_pair os) q t.0 t.1 h).0, k)
 
 -- and back
 map_holds : (v : Valuation) (a : Out) (os : List Out) (fs : List Form) → v a.by_then ≡ flag (is_made v a) → AreTold v os → (is_made v a ≡ true → AllByRecursion (Agree (read_made v a)) (all_made v os)) → Hold v fs → Hold v (map (pair_form a) os ++ fs)
@@ -82,9 +83,9 @@ map_holds v a (o ∷ os) fs e t k h = (pair_value v a o e t.0 ∙ by_made (is_ma
     by_made true false g = refl
     by_made false y g = refl
 
-pub agree_hold : (v : Valuation) (os : List Out) → AreTold v os → AllAgree (all_made v os) → Hold v (pair_forms os)
+pub agree_hold : (v : Valuation) (os : List Out) → AreTold v os → AllAgree (all_made v os) → Hold v (every_pair os)
 agree_hold v [] t h = tt
-agree_hold v (o ∷ os) t h = map_holds v o os (pair_forms os) t.0 t.1 (λ m. first (is_made v o) m h) (agree_hold v os t.1 (others (is_made v o) h))
+agree_hold v (o ∷ os) t h = map_holds v o os (every_pair os) t.0 t.1 (λ m. first (is_made v o) m h) (agree_hold v os t.1 (others (is_made v o) h))
   where
     first : (b : Bool) → b ≡ true → AllAgree (cond b (read_made v o ∷ all_made v os) (all_made v os)) → AllByRecursion (Agree (read_made v o)) (all_made v os)
     first true m g = g.0

@@ -26,7 +26,8 @@ use Rattle.dt_forms.proofs.FormValues.{not_form, both_form, or_form}
 use Rattle.dt_forms.proofs.Tells.{Tells, none_tells, more_tell, tells_as, one_tells, both_tell}
 use Rattle.dt_table.specs.declared.out.Out.{Out}
 use Rattle.dt_table.specs.Told.{told, told_step, made_if}
-use Rattle.dt_table.specs.Claims.{ends_done, ends_only}
+use Rattle.dt_table.specs.Claims.{ends_only}
+use Rattle.dt_ways.specs.Ends.{ends_done}
 use Rattle.dt_table.specs.Apart.{Sized, pages_at}
 use Rattle.dt_table.specs.Demands.{is_masked_form, is_within_form, result_form, quantity_forms}
 use Rattle.dt_table.specs.Outs.{out_at}

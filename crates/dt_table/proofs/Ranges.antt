@@ -17,7 +17,8 @@ use Rattle.dt_forms.specs.Meaning.{Valuation}
 use Rattle.dt_forms.proofs.Tells.{TellAll, tell_as}
 use Rattle.dt_table.specs.Apart.{Sized, pages_at, tables_at}
 use Rattle.dt_table.specs.declared.out.Out.{Out}
-use Rattle.dt_table.specs.Table.{list_access, keep_forms}
+use Rattle.dt_table.specs.Table.{list_access}
+use Rattle.dt_table.proofs.Every.{every_keep}
 use Rattle.dt_table.specs.Told.{told}
 use Rattle.dt_table.proofs.Ready.{AreSet}
 use Rattle.dt_table.proofs.Told.{AllNodes}
@@ -49,10 +50,10 @@ are_told v d r oss set b = record { one = set.one_is; range = set.range; page_is
 
 -- the forms of the kept ranges tell their claims
 pub ranges_tell : (v : Valuation) (d : ModelData) (r : Requests) (m : Memory) (oss : List (List Out)) → IsList d r → AreSet v d r → HaveContexts r r.accesses → AllNodes v d oss → AllTold v d r m 0 r.accesses oss
-    → TellAll v (keep_forms d r oss) (kept_claims d r (seen v d r m))
+    → TellAll v (every_keep d r oss) (kept_claims d r (seen v d r m))
 ranges_tell v d r m oss list set c nodes all =
     let b = all_blocks v d oss nodes in
     let within = within_all d r.kept (recursion_from_All (IsKept d) r.kept list.kept) in
     let told = are_told v d r oss set b in
-    tell_as v (keep_forms d r oss) (map (is_kept (blocks_made v come_of (pages d oss)) (blocks_made v then_of (tables d oss))) r.kept) (kept_claims d r (seen v d r m)) (sym (kept_is v d r m oss c all b))
+    tell_as v (every_keep d r oss) (map (is_kept (blocks_made v come_of (pages d oss)) (blocks_made v then_of (tables d oss))) r.kept) (kept_claims d r (seen v d r m)) (sym (kept_is v d r m oss c all b))
     (record { holds = λ h. all_kept v (list_access d r) (pages d oss) (tables d oss) r.kept told within h; held = λ h. kept_all v (list_access d r) (pages d oss) (tables d oss) r.kept told within h })

@@ -10,7 +10,7 @@ use Rattle.dt_model.specs.Values.{FitNames}
 use Rattle.dt_model.specs.Faults.{steps}
 use Rattle.dt_request.specs.declared.list.AccessWish.{AccessWish}
 use Rattle.dt_request.specs.declared.list.Requests.{Requests}
-use Rattle.dt_request.specs.Lists.{IsDemand, IsWish, IsLink, IsList}
+use Rattle.dt_request.specs.Lists.{IsDemand, IsWish, IsLink, IsKept, IsList}
 use Rattle.dt_image.specs.declared.image.ImageAccess.{ImageAccess}
 use Rattle.dt_satisfy.specs.Claims.{context_claims, access_claims, demand_claims, link_claims, apart_claim, kept_claims, claims}
 use Rattle.dt_satisfy.specs.Satisfies.{Satisfies}
@@ -20,9 +20,11 @@ use Rattle.dt_forms.specs.Claims.{AreOnes, Hold}
 use Rattle.dt_forms.proofs.Tells.{TellAll, one_more_tells, many_tell}
 use Rattle.dt_table.specs.declared.out.Out.{Out}
 use Rattle.dt_table.specs.Told.{told}
-use Rattle.dt_table.specs.Claims.{pair_forms, reads_of}
 use Rattle.dt_table.specs.Links.{link_forms}
+use Rattle.dt_table.specs.Pairs.{pair_forms}
+use Rattle.dt_table.specs.Spots.{all_reads}
 use Rattle.dt_table.specs.Table.{wish_forms, page_forms, keep_forms, list_forms, list_access, built, table, regs_at}
+use Rattle.dt_table.proofs.Every.{every_pair, every_link, every_block, every_keep, every_list, reads_among}
 use Rattle.dt_table.specs.Images.{contexts_told, accesses_told, reads_told, image_told}
 use Rattle.dt_table.proofs.Pairs.{hold_agree}
 use Rattle.dt_table.proofs.Words.{AllAgree, all_listed}
@@ -34,8 +36,10 @@ use Rattle.dt_table.proofs.Told.{AtAccess, placed_nodes, placed_remembered, AllN
 use Rattle.dt_table.proofs.Claimed.{seen, HaveContexts, HaveDemands, AllTold, contexts_claimed, accesses_claimed, demands_tell}
 use Rattle.dt_table.proofs.Linked.{links_tell}
 use Rattle.dt_table.proofs.ListForms.{claims_form}
-use Rattle.dt_table.proofs.Pages.{pages_tell}
-use Rattle.dt_table.proofs.Ranges.{ranges_tell}
+use Rattle.dt_table.proofs.Asked.{AreAsked}
+use Rattle.dt_table.proofs.Wide.{claims_wide}
+use Rattle.dt_table.proofs.Pages.{pages_tell, fit_from}
+use Rattle.dt_table.proofs.Ranges.{within_all, ranges_tell}
 
 -- ---- accesses
 
@@ -123,14 +127,24 @@ given_from v d r m ready list range h fits =
 
 -- the forms of what a list asks tell its claims of the image that the values tell
 pub list_tells : (v : Valuation) (d : ModelData) (r : Requests) (m : Memory) → IsList d r → AreGiven v d r → AllTold v d r m 0 r.accesses (built d r).outs
-    → TellAll v (list_forms d r (built d r).outs) (demand_claims d r (seen v d r m) ++ (link_claims d r (seen v d r m) ++ apart_claim d (seen v d r m) ∷ kept_claims d r (seen v d r m)))
+    → TellAll v (every_list d r (built d r).outs) (demand_claims d r (seen v d r m) ++ (link_claims d r (seen v d r m) ++ apart_claim d (seen v d r m) ∷ kept_claims d r (seen v d r m)))
 list_tells v d r m list g all =
     let oss = (built d r).outs in
     let i = seen v d r m in
-    let links = flat_map (link_forms d (list_access d r) oss) r.links in
-    many_tell v (wish_forms d r 0 r.accesses oss) (links ++ (page_forms d r oss ++ keep_forms d r oss)) (demand_claims d r i) (link_claims d r i ++ apart_claim d i ∷ kept_claims d r i) (demands_tell v d r m oss g.contexts g.demands g.nodes all)
-    (many_tell v links (page_forms d r oss ++ keep_forms d r oss) (link_claims d r i) (apart_claim d i ∷ kept_claims d r i) (links_tell v d r m oss g.set g.contexts g.links g.nodes all)
-    (one_more_tells v (page_forms d r oss) (keep_forms d r oss) (apart_claim d i) (kept_claims d r i) (pages_tell v d r m oss g.set g.contexts g.nodes all) (ranges_tell v d r m oss list g.set g.contexts g.nodes all)))
+    let links = flat_map (every_link d (list_access d r) oss) r.links in
+    many_tell v (wish_forms d r 0 r.accesses oss) (links ++ (every_block d r oss ++ every_keep d r oss)) (demand_claims d r i) (link_claims d r i ++ apart_claim d i ∷ kept_claims d r i) (demands_tell v d r m oss g.contexts g.demands g.nodes all)
+    (many_tell v links (every_block d r oss ++ every_keep d r oss) (link_claims d r i) (apart_claim d i ∷ kept_claims d r i) (links_tell v d r m oss g.set g.contexts g.links g.nodes all)
+    (one_more_tells v (every_block d r oss) (every_keep d r oss) (apart_claim d i) (kept_claims d r i) (pages_tell v d r m oss g.set g.contexts g.nodes all) (ranges_tell v d r m oss list g.set g.contexts g.nodes all)))
+
+-- ---- what is asked of where walks go
+
+pub asked_from : (v : Valuation) (d : ModelData) (r : Requests) → AreGiven v d r → Hold v (list_forms d r (built d r).outs) → AreAsked v d r (built d r).outs
+asked_from v d r g h =
+    let oss = (built d r).outs in
+    let links = flat_map (link_forms d r (list_access d r) oss) r.links in
+    let p = AllByRecursion-split (λ (f : Form). is_one (form_value v f) ≡ true) (wish_forms d r 0 r.accesses oss) (links ++ (page_forms d r oss ++ keep_forms d r oss)) h in
+    let q = AllByRecursion-split (λ (f : Form). is_one (form_value v f) ≡ true) links (page_forms d r oss ++ keep_forms d r oss) p.1 in
+    record { nodes = g.nodes; demands = g.demands; links = g.links; count = placed_count v d r r.accesses oss 0 g.placed; wishes = p.0; linked = q.0 }
 
 -- ---- the theorem
 
@@ -138,7 +152,7 @@ list_tells v d r m list g all =
 pub record AreSolving (v : Valuation) (d : ModelData) (r : Requests) : Type 0 where
   pub given : AreGiven v d r
   pub solved : IsSolved v d r
-  pub asked : Hold v (list_forms d r (built d r).outs)
+  pub asked : Hold v (every_list d r (built d r).outs)
   pub walks : AllTold v d r (image_told v d r).memory 0 r.accesses (built d r).outs
 
 pub solving_from : (v : Valuation) (d : ModelData) (r : Requests) → IsReady d → IsList d r → ((t : ℕ) → (v t).bits < 2 ^ (v t).width.0) → IsLawful v (table d r).terms → AreOnes v (table d r).required → AreSolving v d r
@@ -148,8 +162,11 @@ solving_from v d r ready list range h ones =
     let fits : Fits d r m = record { bytes = refl; lo = refl; hi = refl } in
     let g = given_from v d r m ready list range h fits in
     let solved = table_solved v d r ready (claims_form d r oss) h ones in
-    let reads = flat_map (reads_of (steps d)) oss in
-    let parts = AllByRecursion-split (λ (f : Form). is_one (form_value v f) ≡ true) (pair_forms reads) (list_forms d r oss) solved.claims in
+    let reads = reads_among d oss in
+    let asked = asked_from v d r g (AllByRecursion-split (λ (f : Form). is_one (form_value v f) ≡ true) (pair_forms (all_reads d r 0 oss)) (list_forms d r oss) solved.claims).1 in
+    let within = within_all d r.kept (recursion_from_All (IsKept d) r.kept list.kept) in
+    let every = claims_wide v d r oss asked (fit_from v d r g.set) within solved.claims in
+    let parts = AllByRecursion-split (λ (f : Form). is_one (form_value v f) ≡ true) (every_pair reads) (every_list d r oss) every in
     let agree : AllAgree (reads_told v (steps d) oss) = plain_agree (reads_told v (steps d) oss) (subst AllAgree (sym (told_all v d oss g.nodes)) (hold_agree v reads (all_told v d oss g.nodes) parts.0)) in
     record {
       given = g;

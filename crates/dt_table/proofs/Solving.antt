@@ -20,7 +20,9 @@ use Rattle.dt_forms.specs.Meaning.{Valuation, IsLawful, is_one}
 use Rattle.dt_forms.specs.Forms.{Form, form_value}
 use Rattle.dt_table.specs.declared.out.Out.{Out}
 use Rattle.dt_table.specs.Told.{told}
-use Rattle.dt_table.specs.Claims.{pair_forms, reads_of}
+use Rattle.dt_table.proofs.Every.{every_pair, every_list, reads_among, claim_part}
+use Rattle.dt_table.specs.Pairs.{pair_forms}
+use Rattle.dt_table.specs.Spots.{all_reads}
 use Rattle.dt_table.specs.Table.{regs_at, inputs_at, words_at, access_of, first_state, list_forms, built, table}
 use Rattle.dt_table.specs.Images.{contexts_told, accesses_told, reads_told}
 use Rattle.dt_table.specs.Numbers.{word_in, words_for, access_numbers, numbers_of}
@@ -34,7 +36,7 @@ use Rattle.dt_table.proofs.Composed.{IsPlaced, ArePlaced, solved_table}
 use Rattle.dt_table.proofs.Told.{AtAccess, regs_of, inputs_of, placed_said, told_all, all_told, agree_plain}
 use Rattle.dt_table.proofs.Claimed.{seen, access_told, registers_told, HaveContexts, AllTold, claimed_contexts, claimed_accesses}
 use Rattle.dt_table.proofs.ListForms.{claims_form}
-use Rattle.dt_table.proofs.Satisfying.{given_from, list_tells}
+use Rattle.dt_table.proofs.Satisfying.{given_from, list_tells, asked_from}
 use Rattle.dt_table.proofs.Rising.{walk_rising, rising_remembers, remembers_agree, rising_said}
 use Rattle.dt_table.proofs.Numbers.{HaveBits, bits_split, contexts_back, contexts_total, HaveWords, accesses_back, words_back}
 use Rattle.dt_table.proofs.Dead.{extras_hold}
@@ -83,14 +85,17 @@ seen_solved v d r m ready list range h fits words holds =
     let p3 = AllByRecursion-split IsTrue (context_claims d i ++ access_claims d i ++ demand_claims d r i) (link_claims d r i) p4.0 in
     let p2 = AllByRecursion-split IsTrue (context_claims d i ++ access_claims d i) (demand_claims d r i) p3.0 in
     let p1 = AllByRecursion-split IsTrue (context_claims d i) (access_claims d i) p2.0 in
-    let reads = flat_map (reads_of (steps d)) oss in
+    let reads = reads_among d oss in
     let agree : AllAgree (all_made v reads) = subst AllAgree (told_all v d oss g.nodes) (agree_plain (reads_told v (steps d) oss) (remembers_agree m (reads_told v (steps d) oss) (told_remember v d r m r.accesses oss 0 all))) in
     let asked = AllByRecursion-append IsTrue (demand_claims d r i) (link_claims d r i ++ apart_claim d i ∷ kept_claims d r i) p2.1 (AllByRecursion-append IsTrue (link_claims d r i) (apart_claim d i ∷ kept_claims d r i) p3.1 p4.1) in
+    let every = AllByRecursion-append (λ (f : Form). is_one (form_value v f) ≡ true) (every_pair reads) (every_list d r oss) (agree_hold v reads (all_told v d oss g.nodes) agree) ((list_tells v d r m list g all).held asked) in
+    let claimed = (claim_part d r oss).all (λ (f : Form). is_one (form_value v f) ≡ true) every in
+    let own = (AllByRecursion-split (λ (f : Form). is_one (form_value v f) ≡ true) (pair_forms (all_reads d r 0 oss)) (list_forms d r oss) claimed).1 in
     solved_table v d r ready (claims_form d r oss) h (record {
       contexts = claimed_contexts v d r (length r.contexts) 0 ready g.set (omega arith) p1.0;
       accesses = claimed_accesses v d r m r.accesses 0 ready g.set g.contexts (omega arith) p1.1;
-      claims = AllByRecursion-append (λ (f : Form). is_one (form_value v f) ≡ true) (pair_forms reads) (list_forms d r oss) (agree_hold v reads (all_told v d oss g.nodes) agree) ((list_tells v d r m list g all).held asked);
-    }) (extras_hold v d r m oss ready g.contexts g.nodes all p2.1)
+      claims = claimed;
+    }) (extras_hold v d r oss (asked_from v d r g own))
 
 pub image_solved : (v : Valuation) (d : ModelData) (r : Requests) (i : Image) → IsReady d → IsList d r → ((t : ℕ) → (v t).bits < 2 ^ (v t).width.0) → IsLawful v (table d r).terms → HaveBits v 0 (numbers_of d i) → Satisfies d r i → AreOnes v (table d r).required
 image_solved v d r i ready list range h bits sat =

@@ -1,5 +1,6 @@
 -- What an access's terms tell of its walk: the walk itself, its end and its reads.
-use Rattle.std.proofs.Common.{◌≡◌, ℕ, ◌+◌, ◌<◌, Bool, true, false, cond, eqb, List, [], ◌∷◌, ◌++◌, length, map, get_or, refl, sym, ap, ◌∙◌, subst, arith}
+use Rattle.std.proofs.Common.{◌≡◌, ℕ, suc, ◌+◌, ◌<◌, Bool, true, false, cond, eqb, List, [], ◌∷◌, ◌++◌, length, map, get_or, Some, refl, sym, ap, ◌∙◌, subst, arith}
+use Rattle.std.specs.Prelude.{slice_get}
 use Rattle.std.specs.List.{flat_map, AllByRecursion}
 use Rattle.std.proofs.lemmas.Bool.{false≢true}
 use Rattle.std.proofs.lemmas.List.{length-map, map-append}
@@ -7,6 +8,7 @@ use Rattle.dt_lemmas.proofs.Lists.{AllByRecursion-append}
 use Rattle.dt_bits.specs.Memory.{Memory, is_place}
 use Rattle.dt_model.specs.ModelData.{ModelData, ActData, bind, read, branch, fault, done}
 use Rattle.dt_model.specs.Faults.{steps}
+use Rattle.dt_model.specs.Widths.{Scope}
 use Rattle.dt_request.specs.declared.list.AccessWish.{AccessWish}
 use Rattle.dt_request.specs.declared.list.Requests.{Requests}
 use Rattle.dt_walk.specs.declared.run.End.{End}
@@ -19,11 +21,12 @@ use Rattle.dt_forms.specs.Meaning.{Valuation, flag, is_one}
 use Rattle.dt_table.specs.declared.out.Out.{Out}
 use Rattle.dt_table.specs.Passing.{walk_placed}
 use Rattle.dt_table.specs.Told.{told, told_step, made_if}
-use Rattle.dt_table.specs.Claims.{ends_done, ends_fault, ends_page, reads_of}
+use Rattle.dt_table.specs.Claims.{reads_of}
+use Rattle.dt_ways.specs.Ends.{ends_done, ends_fault, ends_page}
 use Rattle.dt_table.specs.Table.{regs_at, inputs_at, words_at, access_of, first_state}
 use Rattle.dt_table.specs.Images.{bits_from, reads_told}
 use Rattle.dt_table.proofs.Remembered.{Remembers, Says, walk_said}
-use Rattle.dt_table.proofs.Nodes.{words_of, walk_told, ends_once}
+use Rattle.dt_table.proofs.Nodes.{IsStep, words_of, walk_told, ends_once}
 use Rattle.dt_table.proofs.Accesses.{first_follows, length_outs, access_walk}
 use Rattle.dt_table.proofs.Ends.{EndsBy, EndsOnce, AreTruths}
 use Rattle.dt_table.proofs.Outs.{outs_away}
@@ -33,6 +36,7 @@ use Rattle.dt_table.proofs.Ready.{IsReady, AreSet, Fits, access_is, access_left,
 use Rattle.dt_table.proofs.Composed.{IsPlaced}
 use Rattle.dt_table.proofs.Flagged.{AllOuts, IsFlagged, outs_flagged}
 use Rattle.dt_table.proofs.NodeKinds.{reads_have}
+use Rattle.dt_table.proofs.Walked.{IsOn, AreOn, Walked, walk_walked}
 
 -- what is known where an access stands
 pub record AtAccess (v : Valuation) (d : ModelData) (r : Requests) (k : ℕ) (a : AccessWish) (m : Memory) : Type 0 where
@@ -97,6 +101,37 @@ placed_said v d r k a m os h p g =
     ∙ walk_told v acc (env_of d (regs_of v d a) (inputs_of v d r k)) (is_place m) d.word (steps d) (steps d) s 0 0 unbound i (access_left d r k a h.ready) (access_wide v d r k a p.terms h.set h.access) p.lawful (omega arith) h.ready.nonempty
     (first_follows v acc d (regs_of v d a) (inputs_of v d r k) (is_place m) p.terms (words_at d r k) i)
     ∙ ap (λ (l : List Out). told v (steps d) l 0) (sym e)
+
+-- ---- how the walk goes
+
+step_on : (s : Scope) (address word count n : ℕ) (p : ActData) → IsStep s address word count n p → IsOn count n p
+step_on s address word count n (bind x e to) k = (k.3, k.4)
+step_on s address word count n (read x e g t o) k = (k.2, k.3, k.4, k.5)
+step_on s address word count n (branch e t o) k = (k.1, k.2, k.3, k.4)
+step_on s address word count n (fault c) k = tt
+step_on s address word count n (done e p) k = tt
+
+steps_on : (s : Scope) (address word : ℕ) (all ps : List ActData) (n : ℕ) → ((i : ℕ) (p : ActData) → slice_get all i ≡ Some p → IsStep s address word (length all) i p) → ((k : ℕ) (p : ActData) → slice_get ps k ≡ Some p → slice_get all (n + k) ≡ Some p) → AreOn (length all) n ps
+steps_on s address word all [] n sound at = tt
+steps_on s address word all (p ∷ ps) n sound at = (
+  let z : n + 0 ≡ n = omega arith in step_on s address word (length all) n p (sound n p (subst (λ (j : ℕ). slice_get all j ≡ Some p) z (at 0 p refl))),
+  steps_on s address word all ps (n + 1) sound (λ k q e. let z : n + suc k ≡ n + 1 + k = omega arith in subst (λ (j : ℕ). slice_get all j ≡ Some q) z (at (suc k) q e)),
+)
+
+pub placed_walked : (v : Valuation) (d : ModelData) (r : Requests) (k : ℕ) (a : AccessWish) (m : Memory) (os : List Out) → AtAccess v d r k a m → IsPlaced v d r k a os → Walked (steps d) 0 (told v (steps d) os 0)
+placed_walked v d r k a m os h p =
+    let i = access_is v d r k a m h.ready h.set h.context h.access h.fits in
+    let acc = access_of d r k a in
+    let s = first_state acc p.terms (words_at d r k) in
+    let env = env_of d (regs_of v d a) (inputs_of v d r k) in
+    let outs = (walk_placed acc s (steps d) 0).outs in
+    let n : length (words_of v outs) ≡ length (steps d) = length-map outs (λ (o : Out). (v o.word).bits) ∙ length_outs acc (steps d) s 0 in
+    let on = steps_on _ d.address d.word (steps d) (steps d) 0 h.ready.sound (λ j p e. let z : j ≡ 0 + j = omega arith in subst (λ (i : ℕ). slice_get (steps d) i ≡ Some p) z e) in
+    subst (λ (l : List Out). Walked (steps d) 0 (told v (steps d) l 0)) (sym p.outs_are)
+    (subst (λ (q : RunData). Walked (steps d) 0 q)
+    (walk_told v acc env (is_place m) d.word (steps d) (steps d) s 0 0 unbound i (access_left d r k a h.ready) (access_wide v d r k a p.terms h.set h.access) p.lawful (omega arith) h.ready.nonempty
+    (first_follows v acc d (regs_of v d a) (inputs_of v d r k) (is_place m) p.terms (words_at d r k) i))
+    (walk_walked env (is_place m) (steps d) (words_of v outs) (steps d) 0 0 unbound on (λ j p e. let z : j ≡ 0 + j = omega arith in subst (λ (i : ℕ). slice_get (steps d) i ≡ Some p) z e) (omega arith) n (omega arith) h.ready.nonempty))
 
 -- ---- reads
 
@@ -209,9 +244,10 @@ pub record AreNodes (v : Valuation) (d : ModelData) (os : List Out) : Type 0 whe
   pub flagged : AllOuts (IsFlagged v d.address) (steps d) os
   pub away : AreTruths v os
   pub ends : EndsOnce v (steps d) os (told v (steps d) os 0).end
+  pub walked : Walked (steps d) 0 (told v (steps d) os 0)
 
 pub placed_nodes : (v : Valuation) (d : ModelData) (r : Requests) (k : ℕ) (a : AccessWish) (m : Memory) (os : List Out) → AtAccess v d r k a m → IsPlaced v d r k a os → AreNodes v d os
-placed_nodes v d r k a m os h p = record { count = placed_length v d r k a os p; flagged = placed_flagged v d r k a m os h p; away = placed_away v d r k a m os h p; ends = placed_ends v d r k a m os h p }
+placed_nodes v d r k a m os h p = record { count = placed_length v d r k a os p; flagged = placed_flagged v d r k a m os h p; away = placed_away v d r k a m os h p; ends = placed_ends v d r k a m os h p; walked = placed_walked v d r k a m os h p }
 
 -- the terms of all accesses
 abbrev pub AllNodes : Valuation → ModelData → List (List Out) → Type 0

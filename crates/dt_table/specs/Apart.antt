@@ -1,6 +1,5 @@
 -- Blocks as forms: no page that a walk ends in overlaps a table that a walk reads.
-use Rattle.std.specs.Prelude.{ℕ, nat_le, max, if◌then◌else◌, List, [], ◌∷◌, map}
-use Rattle.std.specs.List.{flat_map}
+use Rattle.std.specs.Prelude.{ℕ, nat_le, max, if◌then◌else◌, List, [], ◌∷◌}
 use Rattle.dt_bits.specs.declared.op.Op.TheVariants.{Shr}
 use Rattle.dt_model.specs.ModelData.{ActData, read, done}
 use Rattle.dt_table.specs.declared.out.Out.{Out}
@@ -30,7 +29,3 @@ abbrev pub tables_at : List ActData → List Out → List Sized
 tables_at (read x e g t f ∷ ps) (o ∷ os) = record { exponent = g; out = o } ∷ tables_at ps os
 tables_at (p ∷ ps) (o ∷ os) = tables_at ps os
 tables_at _ _ = []
-
--- no page overlaps a table whose read is made
-abbrev pub apart_forms : Access → List Sized → List Sized → List Form
-apart_forms a pages tables = flat_map (λ p. map (apart_form a (λ o. o.by_then) p) tables) pages

@@ -1,27 +1,11 @@
 -- What is claimed of accesses, as forms over the terms of their nodes.
-use Rattle.std.specs.Prelude.{ℕ, ◌==◌, Bool, true, false, not, ◌&&◌, if◌then◌else◌, List, [], ◌∷◌, ◌++◌, map}
-use Rattle.dt_model.specs.ModelData.{ActData, read, fault, done}
+use Rattle.std.specs.Prelude.{Bool, not, ◌&&◌, if◌then◌else◌, List, [], ◌∷◌}
+use Rattle.dt_model.specs.ModelData.{ActData, read}
+use Rattle.dt_ways.specs.Ends.{is_end}
 use Rattle.dt_table.specs.declared.out.Out.{Out}
 use Rattle.dt_forms.specs.Forms.{Form, term, both_of, implies, same_of}
 
 -- ---- ends
-
-abbrev pub is_end : ActData → Bool
-is_end (fault c) = true
-is_end (done e p) = true
-is_end _ = false
-
-abbrev pub ends_done : ActData → Bool
-ends_done (done e p) = true
-ends_done _ = false
-
-abbrev pub ends_fault : ℕ → ActData → Bool
-ends_fault code (fault c) = c == code
-ends_fault code _ = false
-
-abbrev pub ends_page : ℕ → ActData → Bool
-ends_page page (done e p) = p == page
-ends_page page _ = false
 
 -- the walk comes to no end but those that pass
 abbrev pub ends_only : (ActData → Bool) → List ActData → List Out → List Form
@@ -32,10 +16,6 @@ ends_only test _ _ = []
 
 abbrev pub pair_form : Out → Out → Form
 pair_form a b = implies (both_of (both_of (term a.by_then) (term b.by_then)) (same_of (term a.value) (term b.value))) (same_of (term a.word) (term b.word))
-
-abbrev pub pair_forms : List Out → List Form
-pair_forms [] = []
-pair_forms (o ∷ os) = map (pair_form o) os ++ pair_forms os
 
 -- what stands for the reads
 abbrev pub reads_of : List ActData → List Out → List Out

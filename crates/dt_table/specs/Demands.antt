@@ -11,7 +11,8 @@ use Rattle.dt_request.specs.Lists.{width_of}
 use Rattle.dt_forms.specs.Forms.{Form, term, number, form2, not_of, both_of, same_of, less_of}
 use Rattle.dt_table.specs.declared.out.Out.{Out}
 use Rattle.dt_table.specs.Passing.{Access}
-use Rattle.dt_table.specs.Claims.{ends_done, ends_fault, ends_page, ends_only}
+use Rattle.dt_table.specs.Claims.{ends_only}
+use Rattle.dt_ways.specs.Ends.{ends_done, ends_fault, ends_page}
 use Rattle.dt_table.specs.Apart.{Sized, pages_at}
 use Rattle.dt_table.specs.Outs.{out_at, edge_at}
 

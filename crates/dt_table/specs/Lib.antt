@@ -9,8 +9,10 @@ pub mod Kept
 pub mod Links
 pub mod Numbers
 pub mod Outs
+pub mod Pairs
 pub mod Passing
 pub mod Sizes
+pub mod Spots
 pub mod Table
 pub mod Told
 pub mod Words

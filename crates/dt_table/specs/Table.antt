@@ -19,10 +19,10 @@ use Rattle.dt_forms.specs.Forms.{Form, all_required}
 use Rattle.dt_table.specs.Expressions.{form_of}
 use Rattle.dt_table.specs.declared.out.Out.{Out}
 use Rattle.dt_table.specs.Passing.{Access, State, walk_placed}
-use Rattle.dt_table.specs.Claims.{pair_forms, reads_of}
 use Rattle.dt_table.specs.Demands.{demand_forms}
 use Rattle.dt_table.specs.Links.{link_forms}
-use Rattle.dt_table.specs.Apart.{pages_at, tables_at, apart_forms}
+use Rattle.dt_table.specs.Pairs.{pair_forms, apart_forms}
+use Rattle.dt_table.specs.Spots.{all_reads, all_pages}
 use Rattle.dt_table.specs.Kept.{kept_forms}
 use Rattle.dt_table.specs.Extras.{all_extras}
 
@@ -119,24 +119,24 @@ list_access d r = record { scope = node_scope d; regs = 0; inputs = 0; address =
 
 -- no page is on a table
 abbrev pub page_forms : ModelData → Requests → List (List Out) → List Form
-page_forms d r outs = apart_forms (list_access d r) (flat_map (pages_at (steps d)) outs) (flat_map (tables_at (steps d)) outs)
+page_forms d r outs = apart_forms (list_access d r) (all_pages d r 0 outs) (all_reads d r 0 outs)
 
 -- no page and no table touches a kept range
 abbrev pub keep_forms : ModelData → Requests → List (List Out) → List Form
-keep_forms d r outs = flat_map (kept_forms (list_access d r) (flat_map (pages_at (steps d)) outs) (flat_map (tables_at (steps d)) outs)) r.kept
+keep_forms d r outs = flat_map (kept_forms (list_access d r) (all_pages d r 0 outs) (all_reads d r 0 outs)) r.kept
 
 -- demands, links, pages and kept ranges
 abbrev pub list_forms : ModelData → Requests → List (List Out) → List Form
 list_forms d r outs =
-    wish_forms d r 0 r.accesses outs ++ (flat_map (link_forms d (list_access d r) outs) r.links ++ (page_forms d r outs ++ keep_forms d r outs))
+    wish_forms d r 0 r.accesses outs ++ (flat_map (link_forms d r (list_access d r) outs) r.links ++ (page_forms d r outs ++ keep_forms d r outs))
 
 -- the claims that are no rule: made reads at one cell have one word, and what the list asks
 abbrev pub claim_forms : ModelData → Requests → List (List Out) → List Form
-claim_forms d r outs = pair_forms (flat_map (reads_of (steps d)) outs) ++ list_forms d r outs
+claim_forms d r outs = pair_forms (all_reads d r 0 outs) ++ list_forms d r outs
 
 -- further forms that hold of each image that satisfies
 abbrev pub extra_forms : ModelData → Requests → List (List Out) → List Form
-extra_forms d r outs = all_extras (steps d) r.accesses outs
+extra_forms d r outs = all_extras d r 0 outs
 
 abbrev pub bit_node : ℕ → Term
 bit_node n = node_of [] (Const (record { width = width 1; bits = n })) 0 0 0

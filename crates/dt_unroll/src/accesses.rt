@@ -1,6 +1,5 @@
 ghost use Rattle.std.specs.Prelude.{◌≡◌, [], length, map, IfOk, OnOk};
 ghost use Rattle.dt_model.specs.Accepted.{accepted_data};
-ghost use Rattle.dt_request.specs.Lists.{IsList};
 ghost use Rattle.dt_table.specs.Table.{start, built, contexts_built};
 ghost use Rattle.dt_unroll.specs.Building.{problem_of, built_of};
 
@@ -49,7 +48,6 @@ pub fn build_accesses(
     model: &Accepted,
     requests: &Requests,
 ) -> Result<Vec<Vec<Out>>, NoMemory>
-    requires list { IsList (accepted_data model.now) requests.now }
     requires start { builder.old ≡ problem_of (start (accepted_data model.now) requests.now) }
     ensures problem { OnOk result (builder.new ≡ problem_of (built (accepted_data model.now) requests.now)) }
     ensures outs { IfOk result (λ v. map (λ w. w.items) v.items ≡ (built (accepted_data model.now) requests.now).outs) }

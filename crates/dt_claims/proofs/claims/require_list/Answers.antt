@@ -17,13 +17,13 @@ returns c =
     let r = c.args.requests.now in
     let rows = rows_of c.args.rows.now in
     let wishes = wish_forms d r 0 r.accesses rows in
-    let links = flat_map (link_forms d (list_access d r) rows) r.links in
+    let links = flat_map (link_forms d r (list_access d r) rows) r.links in
     let blocks = page_forms d r rows ++ keep_forms d r rows in
     on_ok_weaker c.require_blocks.result
     (λ h. both_required c.args.builder.now c.require_wishes.new.builder c.require_blocks.new.builder wishes (links ++ blocks) c.in_ok-require_wishes.ensures
     (both_required c.require_wishes.new.builder c.require_links.new.builder c.require_blocks.new.builder links blocks
     (c.in_ok-require_links.ensures
-    ∙ (λ i. demanded c.require_wishes.new.builder (flat_map (link_forms d (access_of (c.in_ok-places.ensures i)) rows) (c.as_slice-links.ensures i)))
+    ∙ (λ i. demanded c.require_wishes.new.builder (flat_map (link_forms d r (access_of (c.in_ok-places.ensures i)) rows) (c.as_slice-links.ensures i)))
     ∙ ap (λ (fs : List Form). demanded c.require_wishes.new.builder fs) (same_links d r rows r.links))
     h))
     c.require_blocks.ensures

@@ -4,7 +4,8 @@ use Rattle.dt_model.specs.ModelData.{data_of}
 use Rattle.dt_model.specs.Faults.{steps}
 use Rattle.dt_build.specs.Building.{demanded}
 use Rattle.dt_table.specs.Apart.{Sized, pages_at}
-use Rattle.dt_table.specs.Claims.{ends_done, ends_only}
+use Rattle.dt_table.specs.Claims.{ends_only}
+use Rattle.dt_ways.specs.Ends.{ends_done}
 use Rattle.dt_table.specs.Demands.{result_form}
 use Rattle.dt_claims.specs.Tests.{test_form}
 use Rattle.dt_claims.specs.Views.{sized}

@@ -7,4 +7,4 @@ use Rattle.dt_claims.specs.Views.{access_of, rows_of}
 use Rattle.dt_claims.proofs.links.require_links.Given as goal
 
 abbrev pub invariant-loop-link : goal.invariant-loop-link
-invariant-loop-link l = demanded l.builder (flat_map (link_forms (data_of l.model) (access_of l.places) (rows_of l.rows)) (drop l.link-index l.links)) ≡ demanded l.initial.builder (flat_map (link_forms (data_of l.model) (access_of l.places) (rows_of l.rows)) l.links)
+invariant-loop-link l = demanded l.builder (flat_map (link_forms (data_of l.model) l.requests (access_of l.places) (rows_of l.rows)) (drop l.link-index l.links)) ≡ demanded l.initial.builder (flat_map (link_forms (data_of l.model) l.requests (access_of l.places) (rows_of l.rows)) l.links)

@@ -37,14 +37,14 @@ pub invariant_of-memory : goal.invariant_of-memory
 invariant_of-memory c =
     let d = accepted_data c.args.model.now in
     let r = c.args.requests.now in
-    let numbers = c.args.numbers.now in
-    let same = image_built d r numbers c.as_slice-values.result.now c.word_bytes.result (steps_of c.as_slice-nodes.result.now) (map (λ row. row.items) c.as_slice.result.now) c.from_vec.result c.in_ok-contexts.contexts c.in_ok-accesses.accesses
-    (values_are c.in_ok-encoded.encoded.problem (table d r) numbers c.in_ok-values.values.items c.as_slice-values.result.now c.in_ok-encoded.ensures.problem c.in_ok-values.ensures c.as_slice-values.ensures.value)
+    let numbers = c.args.values.now in
+    let same = image_built d r numbers c.as_slice-of_terms.result.now c.word_bytes.result (steps_of c.as_slice-nodes.result.now) (map (λ row. row.items) c.as_slice.result.now) c.from_vec.result c.in_ok-contexts.contexts c.in_ok-accesses.accesses
+    (values_are c.in_ok-encoded.encoded.problem (table d r) numbers c.in_ok-of_terms.values.items c.as_slice-of_terms.result.now c.in_ok-encoded.ensures.problem c.in_ok-of_terms.ensures c.as_slice-of_terms.ensures.value)
     c.word_bytes.ensures.value
     (view_steps c.model.result.now d c.as_slice-nodes.result.now c.model.ensures.same c.as_slice-nodes.ensures)
     (rows_are c.as_slice.result.now c.in_ok-encoded.encoded.outs.items (built d r).outs c.as_slice.ensures.value c.in_ok-encoded.ensures.outs)
     (c.from_vec.ensures ∙ c.in_ok-words.ensures ∙ ap words_read c.in_ok-reads.ensures)
-    (c.in_ok-contexts.ensures ∙ ap (λ (n : ℕ). contexts_told (valued c.as_slice-values.result.now) d n 0) c.len.ensures)
+    (c.in_ok-contexts.ensures ∙ ap (λ (n : ℕ). contexts_told (valued c.as_slice-of_terms.result.now) d n 0) c.len.ensures)
     c.in_ok-accesses.ensures in
     subst IsMemory (sym (ap (λ (i : Image). i.memory) same)) (to_memory d r numbers c.args.model.now.accepted c.args.model.now.arities c.requires.list c.requires.assignment c.requires.solves)
 
@@ -52,14 +52,14 @@ pub returns : goal.returns
 returns c =
     let d = accepted_data c.args.model.now in
     let r = c.args.requests.now in
-    let numbers = c.args.numbers.now in
-    let same = image_built d r numbers c.as_slice-values.result.now c.word_bytes.result (steps_of c.as_slice-nodes.result.now) (map (λ row. row.items) c.as_slice.result.now) c.from_vec.result c.in_ok-contexts.contexts c.in_ok-accesses.accesses
-    (values_are c.in_ok-encoded.encoded.problem (table d r) numbers c.in_ok-values.values.items c.as_slice-values.result.now c.in_ok-encoded.ensures.problem c.in_ok-values.ensures c.as_slice-values.ensures.value)
+    let numbers = c.args.values.now in
+    let same = image_built d r numbers c.as_slice-of_terms.result.now c.word_bytes.result (steps_of c.as_slice-nodes.result.now) (map (λ row. row.items) c.as_slice.result.now) c.from_vec.result c.in_ok-contexts.contexts c.in_ok-accesses.accesses
+    (values_are c.in_ok-encoded.encoded.problem (table d r) numbers c.in_ok-of_terms.values.items c.as_slice-of_terms.result.now c.in_ok-encoded.ensures.problem c.in_ok-of_terms.ensures c.as_slice-of_terms.ensures.value)
     c.word_bytes.ensures.value
     (view_steps c.model.result.now d c.as_slice-nodes.result.now c.model.ensures.same c.as_slice-nodes.ensures)
     (rows_are c.as_slice.result.now c.in_ok-encoded.encoded.outs.items (built d r).outs c.as_slice.ensures.value c.in_ok-encoded.ensures.outs)
     (c.from_vec.ensures ∙ c.in_ok-words.ensures ∙ ap words_read c.in_ok-reads.ensures)
-    (c.in_ok-contexts.ensures ∙ ap (λ (n : ℕ). contexts_told (valued c.as_slice-values.result.now) d n 0) c.len.ensures)
+    (c.in_ok-contexts.ensures ∙ ap (λ (n : ℕ). contexts_told (valued c.as_slice-of_terms.result.now) d n 0) c.len.ensures)
     c.in_ok-accesses.ensures in
     let told = told_holds d r numbers c.args.model.now.accepted c.args.model.now.arities c.requires.list c.requires.assignment c.requires.solves in
     let all = subst (Holds d r) (sym same) told in
