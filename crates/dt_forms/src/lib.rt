@@ -6,6 +6,11 @@
 //! size; numbers for the choices give lawful values. There is no code yet that places forms.
 #![tactic(auto)]
 
+mod folded;
 mod laws;
 
-pub use laws::{forms_fit, forms_have_values, numbers_give_values, required_terms_hold};
+pub use folded::Folded;
+pub use laws::{
+    assignments_give_values, claims_fit, claims_have_values, claims_hold, forms_fit, forms_have_values,
+    numbers_give_values, required_terms_hold,
+};
