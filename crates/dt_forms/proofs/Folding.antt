@@ -1,5 +1,5 @@
 -- What the node of an operator comes to where it is folded: its value, and its width.
-use Rattle.std.proofs.Common.{◌≡◌, ℕ, ◌+◌, ◌-◌, ◌<◌, ◌≤◌, ◌^◌, Bool, true, false, ◌&&◌, cond, eqb, ltb, leb, List, [], ◌∷◌, ◌++◌, length, Option, Some, None, refl, sym, ap, ◌∙◌, subst, arith, length-append, ⊎_elim}
+use Rattle.std.proofs.Common.{◌≡◌, ℕ, ◌-◌, ◌<◌, ◌≤◌, ◌^◌, Bool, true, false, ◌&&◌, cond, eqb, ltb, List, [], ◌∷◌, length, Option, Some, None, refl, sym, ap, ◌∙◌, subst, arith, length-append, ⊎_elim}
 use Rattle.std.specs.Int.Bits.{bit_and, bit_or, and_self, or_self, and_zero_r, or_zero_r, or_add_and}
 use Rattle.std.specs.Prelude.{position}
 use Rattle.std.proofs.Math.ListN.{get_or-append}
@@ -8,7 +8,7 @@ use Rattle.std.proofs.lemmas.Nat.{pow_pos, or_lt, le_or_r, and_comm, or_comm}
 use Rattle.std.proofs.lemmas.List.{get_or_past}
 use Rattle.dt_lemmas.proofs.Options.{some_is}
 use Rattle.dt_bits.specs.Bits.{IsWidth, IsValue, width}
-use Rattle.dt_bits.specs.Ops.{IsOp, arity_of, applied, fits_at, fits_of, width_of}
+use Rattle.dt_bits.specs.Ops.{IsOp, arity_of, applied, fits_of, width_of}
 use Rattle.dt_bits.specs.declared.op.Op.{Op}
 use Rattle.dt_bits.specs.declared.op.Op.TheVariants.{Const, Not, And, Or, Xor, Add, Sub, Slice, Concat, SignExt, Shl, Shr, Eq, Ltu, Ite}
 use Rattle.dt_bits.specs.declared.value.Bv.{Bv}
@@ -17,16 +17,16 @@ use Rattle.dt_bits.proofs.Operators.{value_used, value_fits, fits_same}
 use Rattle.dt_terms.specs.declared.term.Term.{Term}
 use Rattle.dt_terms.specs.declared.term.Term.TheVariants.{Choice, Node}
 use Rattle.dt_terms.specs.Terms.{AreTerms, term_at, bits_at, width_of_term}
-use Rattle.dt_terms.specs.Additions.{kept, node_of, are_named, is_fit, operands_fault}
-use Rattle.dt_terms.proofs.Placed.{placed, fits_parts, bits_is}
+use Rattle.dt_terms.specs.Additions.{kept, node_of, are_named, is_fit}
+use Rattle.dt_terms.proofs.Placed.{placed, fits_parts}
 use Rattle.dt_forms.specs.declared.folded.Folded.{Folded}
 use Rattle.dt_forms.specs.declared.folded.Folded.TheVariants.{At, Value, New}
 use Rattle.dt_forms.specs.Meaning.{Valuation, HasValue, IsLawful, AreValues, flag}
 use Rattle.dt_forms.specs.Same.{same_term}
-use Rattle.dt_forms.specs.Placing.{Placed, place, place_const, put, shared}
+use Rattle.dt_forms.specs.Placing.{place, put, shared}
 use Rattle.dt_forms.specs.Forms.{nothing}
 use Rattle.dt_forms.specs.Folding.{constant_of, constant_at, operand_at, known, is_zero, is_ones, with_constant, with_second, with_first, with_itself, is_beside, half_known, known_or, folded, placed_folded, fold}
-use Rattle.dt_forms.specs.Sizes.{Grows, IsPut}
+use Rattle.dt_forms.specs.Sizes.{IsPut}
 use Rattle.dt_forms.proofs.Lawful.{place_before, place_value}
 use Rattle.dt_forms.proofs.Sizes.{Puts, grows_none, grows_within, place_can, fault_parts}
 use Rattle.dt_forms.proofs.FormValues.{GivesValues}
@@ -377,7 +377,7 @@ known_in terms op a b c w x h i f e s k =
     let third = operand_fits terms op 2 c p.2 h p.5 in
     let same = fits_same op (bits_at terms (kept op 0 a)) (bits_at terms (kept op 1 b)) (bits_at terms (kept op 2 c)) p.0.width.0 p.1.width.0 p.2.width.0 first.1 second.1 third.1 in
     let there : fits_of op (bits_at terms (kept op 0 a)) (bits_at terms (kept op 1 b)) (bits_at terms (kept op 2 c)) ≡ Some (width w) =
-        cond-true (is_fit terms op a b c) (Some (width (width_of op (bits_at terms (kept op 0 a)) (bits_at terms (kept op 1 b)) (bits_at terms (kept op 2 c))))) None f ∙ ap (λ (n : ℕ). Some (width n)) e in
+    cond-true (is_fit terms op a b c) (Some (width (width_of op (bits_at terms (kept op 0 a)) (bits_at terms (kept op 1 b)) (bits_at terms (kept op 2 c))))) None f ∙ ap (λ (n : ℕ). Some (width n)) e in
     let q = fits_parts op p.0.width.0 p.1.width.0 p.2.width.0 (width w) (sym same ∙ there) in
     let wide : width_of op p.0.width.0 p.1.width.0 p.2.width.0 ≡ w = ap (λ (z : Width). z.0) q.1 in
     subst (λ (y : Bv). IsIn terms w (Value y)) p.6

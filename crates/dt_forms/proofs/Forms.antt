@@ -18,7 +18,6 @@ use Rattle.dt_forms.specs.Forms.{Form, term, number, form1, form2, form3, Placin
 use Rattle.dt_forms.specs.Sizes.{form_width, form_size}
 use Rattle.dt_forms.specs.Forms.{HasForm}
 use Rattle.dt_forms.proofs.Sizes.{grows_none, grows_on, one_of, two_of, three_of, one_fits, two_fits, three_fits, Puts, place_can}
-use Rattle.dt_forms.specs.Placing.{place}
 use Rattle.dt_forms.specs.Sizes.{Grows, IsPut}
 use Rattle.dt_forms.specs.Room.{CanPlace}
 use Rattle.dt_forms.proofs.Fitted.{fitted_is}

@@ -1,6 +1,5 @@
 -- Terms that are put behind others, where operators with constant operands are folded.
 use Rattle.std.specs.Prelude.{ℕ, ◌-◌, ◌^◌, ◌==◌, ◌&&◌, nat_lt, if◌then◌else◌, Bool, true, false, List, length, Option, Some, None}
-use Rattle.dt_bits.specs.Bits.{width}
 use Rattle.dt_bits.specs.Ops.{arity_of, applied}
 use Rattle.dt_bits.specs.declared.op.Op.{Op}
 use Rattle.dt_bits.specs.declared.op.Op.TheVariants.{Const, And, Or, Eq, Ltu}

@@ -11,6 +11,6 @@ mod laws;
 
 pub use folded::Folded;
 pub use laws::{
-    assignments_give_values, claims_fit, claims_have_values, claims_hold, forms_fit, forms_have_values,
-    numbers_give_values, required_terms_hold,
+    assignments_give_values, claims_fit, claims_have_values, claims_hold, forms_fit,
+    forms_have_values, numbers_give_values, required_terms_hold,
 };
