@@ -3,7 +3,7 @@ ghost use Rattle.std.specs.List.{flat_map};
 ghost use Rattle.dt_model.specs.Accepted.{accepted_data};
 ghost use Rattle.dt_model.specs.ModelData.{data_of};
 ghost use Rattle.dt_model.specs.Faults.{steps};
-ghost use Rattle.dt_build.specs.Building.{demanded};
+ghost use Rattle.dt_build.specs.Building.{claimed};
 ghost use Rattle.dt_table.specs.Apart.{pages_at, tables_at};
 ghost use Rattle.dt_table.specs.Claims.{pair_forms, reads_of};
 ghost use Rattle.dt_table.specs.Extras.{all_extras};
@@ -73,7 +73,7 @@ fn require_words(
     model: &Model,
     rows: &[Vec<Out>],
 ) -> Result<(), NoMemory>
-    ensures { OnOk result (builder.new ≡ demanded builder.old
+    ensures { OnOk result (builder.new ≡ claimed builder.old
         (pair_forms (flat_map (reads_of (steps (data_of model.now))) (rows_of rows.now)))) }
 {
     let mut reads = Vec::new(alloc);
@@ -89,7 +89,7 @@ fn require_wishes(
     requests: &Requests,
     rows: &[Vec<Out>],
 ) -> Result<(), NoMemory>
-    ensures { OnOk result (builder.new ≡ demanded builder.old
+    ensures { OnOk result (builder.new ≡ claimed builder.old
         (wish_forms (data_of model.now) requests.now 0 requests.now.accesses (rows_of rows.now))) }
 {
     let accesses = requests.accesses.as_slice();
@@ -115,7 +115,7 @@ fn require_blocks(
 ) -> Result<(), NoMemory>
     requires { places ≡ places_of (data_of model.now) requests.now 0 0 }
     ensures { let d = data_of model.now in
-        OnOk result (builder.new ≡ demanded builder.old
+        OnOk result (builder.new ≡ claimed builder.old
         (page_forms d requests.now (rows_of rows.now) ++ keep_forms d requests.now (rows_of rows.now))) }
 {
     let mut pages = Vec::new(alloc);
@@ -135,7 +135,7 @@ fn require_list(
     requests: &Requests,
     rows: &[Vec<Out>],
 ) -> Result<(), NoMemory>
-    ensures { OnOk result (builder.new ≡ demanded builder.old
+    ensures { OnOk result (builder.new ≡ claimed builder.old
         (list_forms (data_of model.now) requests.now (rows_of rows.now))) }
 {
     require_wishes(alloc, builder, model, requests, rows)?;
@@ -153,7 +153,7 @@ fn require_all_extras(
     requests: &Requests,
     rows: &[Vec<Out>],
 ) -> Result<(), NoMemory>
-    ensures { OnOk result (builder.new ≡ demanded builder.old
+    ensures { OnOk result (builder.new ≡ claimed builder.old
         (extra_forms (data_of model.now) requests.now (rows_of rows.now))) }
 {
     let accesses = requests.accesses.as_slice();
@@ -194,7 +194,7 @@ pub fn require_claims(
 ) -> Result<(), NoMemory>
     ensures { let d = accepted_data model.now in
         let rows = map (λ v. v.items) outs.now in
-        OnOk result (builder.new ≡ demanded builder.old (claim_forms d requests.now rows ++ extra_forms d requests.now rows)) }
+        OnOk result (builder.new ≡ claimed builder.old (claim_forms d requests.now rows ++ extra_forms d requests.now rows)) }
 {
     let model = model.model();
     require_words(alloc, builder, model, outs)?;

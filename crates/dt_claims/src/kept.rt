@@ -1,7 +1,7 @@
 ghost use Rattle.std.specs.Prelude.{◌≡◌, ◌∷◌, [], ◌<◌, map, IfOk, OnOk};
 ghost use Rattle.std.specs.List.{flat_map};
-ghost use Rattle.dt_build.specs.Building.{demanded, placed_in};
-ghost use Rattle.dt_forms.specs.Forms.{form_placed};
+ghost use Rattle.dt_build.specs.Building.{claimed, placed_in};
+ghost use Rattle.dt_forms.specs.Folding.{claim_placed};
 ghost use Rattle.dt_table.specs.Kept.{touches_form, kept_form, kept_forms};
 ghost use Rattle.dt_claims.specs.Views.{sized, access_of};
 
@@ -21,8 +21,8 @@ fn touches(
     kept: KeptRange,
     address: u32,
 ) -> Result<u32, NoMemory>
-    ensures at { IfOk result (λ t. t ≡ (form_placed builder.old.terms (touches_form (access_of places) exponent kept address)).at) }
-    ensures placed { OnOk result (builder.new ≡ placed_in builder.old (form_placed builder.old.terms (touches_form (access_of places) exponent kept address))) }
+    ensures at { IfOk result (λ t. t ≡ (claim_placed builder.old.terms (touches_form (access_of places) exponent kept address)).at) }
+    ensures placed { OnOk result (builder.new ≡ placed_in builder.old (claim_placed builder.old.terms (touches_form (access_of places) exponent kept address))) }
 {
     if places.address <= exponent {
         return Ok(places.one);
@@ -50,7 +50,7 @@ fn require_kept(
     block: SizedOut,
     made: u32,
 ) -> Result<(), NoMemory>
-    ensures { OnOk result (builder.new ≡ demanded builder.old (kept_form (access_of places) kept (λ _. made) (sized block) ∷ [])) }
+    ensures { OnOk result (builder.new ≡ claimed builder.old (kept_form (access_of places) kept (λ _. made) (sized block) ∷ [])) }
 {
     let touched = touches(builder, places, block.exponent, kept, block.out.value)?;
     let both = builder.both(made, touched)?;
@@ -65,7 +65,7 @@ fn require_pages_kept(
     pages: &[SizedOut],
     kept: KeptRange,
 ) -> Result<(), NoMemory>
-    ensures { OnOk result (builder.new ≡ demanded builder.old
+    ensures { OnOk result (builder.new ≡ claimed builder.old
         (map (kept_form (access_of places) kept (λ o. o.come)) (map sized pages.now))) }
 {
     for page in pages {
@@ -81,7 +81,7 @@ fn require_tables_kept(
     tables: &[SizedOut],
     kept: KeptRange,
 ) -> Result<(), NoMemory>
-    ensures { OnOk result (builder.new ≡ demanded builder.old
+    ensures { OnOk result (builder.new ≡ claimed builder.old
         (map (kept_form (access_of places) kept (λ o. o.by_then)) (map sized tables.now))) }
 {
     for table in tables {
@@ -98,7 +98,7 @@ fn require_range_kept(
     tables: &[SizedOut],
     kept: KeptRange,
 ) -> Result<(), NoMemory>
-    ensures { OnOk result (builder.new ≡ demanded builder.old
+    ensures { OnOk result (builder.new ≡ claimed builder.old
         (kept_forms (access_of places) (map sized pages.now) (map sized tables.now) kept)) }
 {
     if kept.lo >= kept.hi {
@@ -117,7 +117,7 @@ pub(crate) fn require_ranges_kept(
     tables: &[SizedOut],
     ranges: &[KeptRange],
 ) -> Result<(), NoMemory>
-    ensures { OnOk result (builder.new ≡ demanded builder.old
+    ensures { OnOk result (builder.new ≡ claimed builder.old
         (flat_map (kept_forms (access_of places) (map sized pages.now) (map sized tables.now)) ranges.now)) }
 {
     for kept in ranges {

@@ -1,8 +1,8 @@
 ghost use Rattle.std.specs.Prelude.{◌≡◌, ◌++◌, ◌∷◌, [], map, IfOk, OnOk};
 ghost use Rattle.std.specs.List.{flat_map};
 ghost use Rattle.dt_model.specs.ModelData.{data_of};
-ghost use Rattle.dt_build.specs.Building.{demanded, placed_in};
-ghost use Rattle.dt_forms.specs.Forms.{form_placed};
+ghost use Rattle.dt_build.specs.Building.{claimed, placed_in};
+ghost use Rattle.dt_forms.specs.Folding.{claim_placed};
 ghost use Rattle.dt_table.specs.Links.{one_block, apart_blocks, one_cell, one_page, reads_forms, pages_forms, link_forms, side_at};
 ghost use Rattle.dt_claims.specs.Relations.{relation_form, page_relation_form};
 ghost use Rattle.dt_claims.specs.Views.{sized, access_of, rows_of};
@@ -46,8 +46,8 @@ fn one_block(
     x: SizedOut,
     y: SizedOut,
 ) -> Result<u32, NoMemory>
-    ensures at { IfOk result (λ t. t ≡ (form_placed builder.old.terms (one_block (access_of places) (sized x) (sized y))).at) }
-    ensures placed { OnOk result (builder.new ≡ placed_in builder.old (form_placed builder.old.terms (one_block (access_of places) (sized x) (sized y)))) }
+    ensures at { IfOk result (λ t. t ≡ (claim_placed builder.old.terms (one_block (access_of places) (sized x) (sized y))).at) }
+    ensures placed { OnOk result (builder.new ≡ placed_in builder.old (claim_placed builder.old.terms (one_block (access_of places) (sized x) (sized y)))) }
 {
     if x.exponent == y.exponent {
         same_block(builder, places, x.exponent, x.out.value, y.out.value)
@@ -63,8 +63,8 @@ fn apart_blocks(
     x: SizedOut,
     y: SizedOut,
 ) -> Result<u32, NoMemory>
-    ensures at { IfOk result (λ t. t ≡ (form_placed builder.old.terms (apart_blocks (access_of places) (sized x) (sized y))).at) }
-    ensures placed { OnOk result (builder.new ≡ placed_in builder.old (form_placed builder.old.terms (apart_blocks (access_of places) (sized x) (sized y)))) }
+    ensures at { IfOk result (λ t. t ≡ (claim_placed builder.old.terms (apart_blocks (access_of places) (sized x) (sized y))).at) }
+    ensures placed { OnOk result (builder.new ≡ placed_in builder.old (claim_placed builder.old.terms (apart_blocks (access_of places) (sized x) (sized y)))) }
 {
     let exponent = x.exponent.max(y.exponent);
     let same = same_block(builder, places, exponent, x.out.value, y.out.value)?;
@@ -79,8 +79,8 @@ fn place_relation(
     x: SizedOut,
     y: SizedOut,
 ) -> Result<u32, NoMemory>
-    ensures at { IfOk result (λ t. t ≡ (form_placed builder.old.terms (relation_form (access_of places) relation (sized x) (sized y))).at) }
-    ensures placed { OnOk result (builder.new ≡ placed_in builder.old (form_placed builder.old.terms (relation_form (access_of places) relation (sized x) (sized y)))) }
+    ensures at { IfOk result (λ t. t ≡ (claim_placed builder.old.terms (relation_form (access_of places) relation (sized x) (sized y))).at) }
+    ensures placed { OnOk result (builder.new ≡ placed_in builder.old (claim_placed builder.old.terms (relation_form (access_of places) relation (sized x) (sized y)))) }
 {
     match relation {
         Relation::OneTable => one_block(builder, places, x, y),
@@ -97,7 +97,7 @@ fn require_reads(
     x: SizedOut,
     y: SizedOut,
 ) -> Result<(), NoMemory>
-    ensures { OnOk result (builder.new ≡ demanded builder.old
+    ensures { OnOk result (builder.new ≡ claimed builder.old
         (reads_forms (relation_form (access_of places) relation) (sized x) (sized y))) }
 {
     builder.require(x.out.by_then)?;
@@ -118,7 +118,7 @@ fn require_sides(
 ) -> Result<(), NoMemory>
     ensures { let d = data_of model.now in
         let outs = rows_of rows.now in
-        OnOk result (builder.new ≡ demanded builder.old
+        OnOk result (builder.new ≡ claimed builder.old
         (reads_forms (relation_form (access_of places) relation) (side_at d outs a) (side_at d outs b))) }
 {
     let x = side_at(model, rows, a);
@@ -133,7 +133,7 @@ fn require_one_page(
     x: SizedOut,
     y: SizedOut,
 ) -> Result<(), NoMemory>
-    ensures { OnOk result (builder.new ≡ demanded builder.old (one_page (access_of places) (sized x) (sized y) ∷ [])) }
+    ensures { OnOk result (builder.new ≡ claimed builder.old (one_page (access_of places) (sized x) (sized y) ∷ [])) }
 {
     let both = builder.both(x.out.come, y.out.come)?;
     let never = builder.not(both)?;
@@ -141,7 +141,7 @@ fn require_one_page(
         return builder.require(never);
     }
     let same = same_block(builder, places, x.exponent, x.out.value, y.out.value)?;
-    let whole = builder.place(Op::Or, never, same, 0)?;
+    let whole = builder.fold(Op::Or, never, same, 0)?;
     builder.require(whole)
 }
 
@@ -153,7 +153,7 @@ fn require_page_pair(
     x: SizedOut,
     y: SizedOut,
 ) -> Result<(), NoMemory>
-    ensures { OnOk result (builder.new ≡ demanded builder.old
+    ensures { OnOk result (builder.new ≡ claimed builder.old
         (page_relation_form (access_of places) relation (sized x) (sized y) ∷ [])) }
 {
     match relation {
@@ -170,7 +170,7 @@ fn require_page_with(
     page: SizedOut,
     others: &[SizedOut],
 ) -> Result<(), NoMemory>
-    ensures { OnOk result (builder.new ≡ demanded builder.old
+    ensures { OnOk result (builder.new ≡ claimed builder.old
         (map (page_relation_form (access_of places) relation (sized page)) (map sized others.now))) }
 {
     for other in others {
@@ -187,7 +187,7 @@ fn require_page_pairs(
     pages: &[SizedOut],
     others: &[SizedOut],
 ) -> Result<(), NoMemory>
-    ensures { OnOk result (builder.new ≡ demanded builder.old
+    ensures { OnOk result (builder.new ≡ claimed builder.old
         (flat_map (λ x. map (page_relation_form (access_of places) relation x) (map sized others.now)) (map sized pages.now))) }
 {
     for page in pages {
@@ -206,7 +206,7 @@ fn require_pages(
     outs: &[Out],
     others: &[Out],
 ) -> Result<(), NoMemory>
-    ensures { OnOk result (builder.new ≡ demanded builder.old
+    ensures { OnOk result (builder.new ≡ claimed builder.old
         (pages_forms (data_of model.now) (page_relation_form (access_of places) relation) outs.now others.now)) }
 {
     require_ends(builder, Ending::Result, model, outs)?;
@@ -233,7 +233,7 @@ fn require_link(
     rows: &[Vec<Out>],
     link: Link,
 ) -> Result<(), NoMemory>
-    ensures { OnOk result (builder.new ≡ demanded builder.old
+    ensures { OnOk result (builder.new ≡ claimed builder.old
         (link_forms (data_of model.now) (access_of places) (rows_of rows.now) link)) }
 {
     match link {
@@ -282,7 +282,7 @@ pub(crate) fn require_links(
     rows: &[Vec<Out>],
     links: &[Link],
 ) -> Result<(), NoMemory>
-    ensures { OnOk result (builder.new ≡ demanded builder.old
+    ensures { OnOk result (builder.new ≡ claimed builder.old
         (flat_map (link_forms (data_of model.now) (access_of places) (rows_of rows.now)) links.now)) }
 {
     for link in links {

@@ -1,8 +1,8 @@
 use Rattle.std.proofs.Common.{◌≡◌, map, drop}
-use Rattle.dt_build.specs.Building.{demanded}
+use Rattle.dt_build.specs.Building.{claimed}
 use Rattle.dt_table.specs.Apart.{apart_forms}
 use Rattle.dt_claims.specs.Views.{sized, access_of}
 use Rattle.dt_claims.proofs.apart.require_pages_apart.Given as goal
 
 abbrev pub invariant-loop-page : goal.invariant-loop-page
-invariant-loop-page l = demanded l.builder (apart_forms (access_of l.places) (map sized (drop l.page-index l.pages)) (map sized l.tables)) ≡ demanded l.initial.builder (apart_forms (access_of l.places) (map sized l.pages) (map sized l.tables))
+invariant-loop-page l = claimed l.builder (apart_forms (access_of l.places) (map sized (drop l.page-index l.pages)) (map sized l.tables)) ≡ claimed l.initial.builder (apart_forms (access_of l.places) (map sized l.pages) (map sized l.tables))

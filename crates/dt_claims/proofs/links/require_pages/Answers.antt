@@ -3,7 +3,7 @@ use Rattle.std.specs.List.{flat_map}
 use Rattle.std.proofs.lemmas.Result.{on_ok_weaker}
 use Rattle.dt_model.specs.ModelData.{data_of}
 use Rattle.dt_model.specs.Faults.{steps}
-use Rattle.dt_build.specs.Building.{demanded}
+use Rattle.dt_build.specs.Building.{claimed}
 use Rattle.dt_forms.specs.Forms.{Form}
 use Rattle.dt_table.specs.Apart.{Sized, pages_at}
 use Rattle.dt_table.specs.Claims.{ends_done, ends_only}
@@ -25,5 +25,5 @@ returns c =
     on_ok_weaker c.require_page_pairs.result
     (λ h. both_required c.args.builder.now c.require_ends.new.builder c.require_page_pairs.new.builder ends (other_ends ++ all (pages_at ps c.args.outs.now) (pages_at ps c.args.others.now)) c.in_ok-require_ends.ensures
     (both_required c.require_ends.new.builder c.require_ends-2.new.builder c.require_page_pairs.new.builder other_ends (all (pages_at ps c.args.outs.now) (pages_at ps c.args.others.now)) c.in_ok-require_ends-2.ensures
-    (h ∙ ap (λ (xs : List Sized). demanded c.require_ends-2.new.builder (all xs (map sized c.as_slice-2.result.now))) pages ∙ ap (λ (ys : List Sized). demanded c.require_ends-2.new.builder (all (pages_at ps c.args.outs.now) ys)) others)))
+    (h ∙ ap (λ (xs : List Sized). claimed c.require_ends-2.new.builder (all xs (map sized c.as_slice-2.result.now))) pages ∙ ap (λ (ys : List Sized). claimed c.require_ends-2.new.builder (all (pages_at ps c.args.outs.now) ys)) others)))
     c.require_page_pairs.ensures

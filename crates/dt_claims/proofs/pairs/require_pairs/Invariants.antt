@@ -1,7 +1,7 @@
 use Rattle.std.proofs.Common.{◌≡◌, drop}
-use Rattle.dt_build.specs.Building.{demanded}
+use Rattle.dt_build.specs.Building.{claimed}
 use Rattle.dt_table.specs.Claims.{pair_forms}
 use Rattle.dt_claims.proofs.pairs.require_pairs.Given as goal
 
 abbrev pub invariant-loop-n : goal.invariant-loop-n
-invariant-loop-n l = demanded l.builder (pair_forms (drop l.n l.reads)) ≡ demanded l.initial.builder (pair_forms l.reads)
+invariant-loop-n l = claimed l.builder (pair_forms (drop l.n l.reads)) ≡ claimed l.initial.builder (pair_forms l.reads)
