@@ -18,10 +18,12 @@ fn constant_at(terms: &[Term], term: u32) -> Option<Bv>
     ensures range { IfSome result (λ x. IsValue x) }
 {
     match terms.get(term as usize) {
-        Some(Term::Node {
-            op: Op::Const { value },
-            ..
-        }) => Some(*value),
+        Some(
+            Term::Node {
+                op: Op::Const { value },
+                ..
+            },
+        ) => Some(*value),
         _ => None,
     }
 }

@@ -21,7 +21,7 @@ pub record GivesValues (P : Valuation → List Term → Type 0) (placing : Placi
   pub number_before : (v : Valuation) (terms : List Term) (x : Bv) → P v (place terms (Const x) 0 0 0).terms → P v terms
   pub number_value : (v : Valuation) (terms : List Term) (x : Bv) → P v (place terms (Const x) 0 0 0).terms → v (place terms (Const x) 0 0 0).at ≡ x
 
-place_gives : GivesValues IsLawful place
+pub place_gives : GivesValues IsLawful place
 place_gives = record {
   before = place_before;
   value = place_value;

@@ -3,7 +3,9 @@
 //!
 //! Proved, as laws over the definitions: a form stands with its value under all lawful values;
 //! required forms hold exactly where their terms are 1; a form that fits can be placed within its
-//! size; numbers for the choices give lawful values. There is no code yet that places forms.
+//! size; numbers for the choices give lawful values. The same holds of claims, which are forms whose
+//! operators are folded where their operands are constants. The code that places forms is the crate
+//! `dt_build`.
 #![tactic(auto)]
 
 mod folded;

@@ -1,5 +1,5 @@
 -- Values whose choices have the numbers of a satisfying image solve the problem of its list.
-use Rattle.std.proofs.Common.{◌≡◌, ℕ, ◌+◌, ◌*◌, ◌<◌, ◌≤◌, ◌^◌, true, List, [], ◌∷◌, ◌++◌, length, get_or, Some, sym, ap, ◌∙◌, subst, arith}
+use Rattle.std.proofs.Common.{◌≡◌, ℕ, ◌+◌, ◌*◌, ◌≤◌, true, List, [], ◌∷◌, ◌++◌, length, get_or, Some, sym, ap, ◌∙◌, subst, arith}
 use Rattle.std.specs.Prelude.{slice_get, IsTrue}
 use Rattle.std.specs.List.{flat_map, AllByRecursion}
 use Rattle.std.proofs.lemmas.List.Elements.{recursion_from_All}
@@ -16,7 +16,7 @@ use Rattle.dt_image.specs.declared.image.Image.{Image}
 use Rattle.dt_image.specs.declared.image.ImageAccess.{ImageAccess}
 use Rattle.dt_satisfy.specs.Claims.{run_of, context_claims, access_claims, demand_claims, link_claims, apart_claim, kept_claims, claims}
 use Rattle.dt_satisfy.specs.Satisfies.{Satisfies}
-use Rattle.dt_forms.specs.Meaning.{Valuation, IsLawful, AreValues, is_one}
+use Rattle.dt_forms.specs.Meaning.{Valuation, AreValues, is_one}
 use Rattle.dt_forms.specs.Forms.{Form, form_value}
 use Rattle.dt_table.specs.declared.out.Out.{Out}
 use Rattle.dt_table.specs.Told.{told}

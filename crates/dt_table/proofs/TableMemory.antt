@@ -14,7 +14,7 @@ use Rattle.dt_request.specs.Lists.{IsList}
 use Rattle.dt_walk.specs.declared.run.ReadMade.{ReadMade}
 use Rattle.dt_walk.specs.Meaning.{env_of, unbound}
 use Rattle.dt_walk.specs.Walks.{RunData}
-use Rattle.dt_forms.specs.Meaning.{Valuation, IsLawful, AreValues, is_one}
+use Rattle.dt_forms.specs.Meaning.{Valuation, AreValues, is_one}
 use Rattle.dt_table.specs.declared.out.Out.{Out}
 use Rattle.dt_table.specs.Passing.{Access, State, passed, noted, walk_placed}
 use Rattle.dt_table.specs.Told.{told, told_step, made_if}

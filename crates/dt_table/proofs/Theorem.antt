@@ -1,18 +1,16 @@
 -- A solving assignment tells an image that satisfies the list, and the numbers of a satisfying image are a solving assignment.
-use Rattle.std.proofs.Common.{◌≡◌, ℕ, zero, suc, ◌+◌, ◌<◌, ◌≤◌, ◌^◌, Bool, true, cond, eqb, ◌&&◌, List, [], ◌∷◌, ◌++◌, length, take, get_or, ⊎_elim, refl, sym, ap, ◌∙◌, subst, arith, length-append}
+use Rattle.std.proofs.Common.{◌≡◌, ℕ, zero, suc, ◌+◌, ◌<◌, ◌≤◌, Bool, true, cond, eqb, ◌&&◌, List, [], ◌∷◌, ◌++◌, length, take, get_or, refl, sym, ap, ◌∙◌, subst, arith, length-append}
 use Rattle.std.specs.List.{list_all}
-use Rattle.std.proofs.lemmas.Bool.{false≢true, cases_lt, and_parts}
-use Rattle.std.proofs.lemmas.List.{get_or_past}
-use Rattle.std.proofs.lemmas.Nat.{pow_pos}
+use Rattle.std.proofs.lemmas.Bool.{false≢true, and_parts}
 use Rattle.dt_model.specs.ModelData.{ModelData}
 use Rattle.dt_request.specs.declared.list.Requests.{Requests}
 use Rattle.dt_request.specs.Lists.{IsList}
 use Rattle.dt_terms.specs.declared.term.Term.{Term}
 use Rattle.dt_terms.specs.declared.term.Term.TheVariants.{Choice, Node}
-use Rattle.dt_terms.specs.Terms.{AreTerms, term_at, bits_at, is_choice, choice_at}
+use Rattle.dt_terms.specs.Terms.{AreTerms, term_at, is_choice, choice_at}
 use Rattle.dt_terms.specs.Values.{IsAssignment, values_of, value_of_term, solves}
 use Rattle.dt_terms.proofs.Choices.{choices_of-none, choice_at-next}
-use Rattle.dt_terms.proofs.Valued.{values_fit, value_is}
+use Rattle.dt_terms.proofs.Valued.{value_is}
 use Rattle.dt_image.specs.declared.image.Image.{Image}
 use Rattle.dt_satisfy.specs.Satisfies.{Satisfies}
 use Rattle.dt_forms.specs.Meaning.{Valuation}
