@@ -3,6 +3,7 @@ ghost use Rattle.std.specs.List.{flat_map};
 ghost use Rattle.dt_build.specs.Building.{claimed, placed_in};
 ghost use Rattle.dt_forms.specs.Folding.{claim_placed};
 ghost use Rattle.dt_table.specs.Kept.{touches_form, kept_form, kept_forms};
+ghost use Rattle.dt_claims.specs.Blocks.{not_above, not_below};
 ghost use Rattle.dt_claims.specs.Views.{sized, access_of};
 
 use crate::places::Places;
@@ -11,6 +12,40 @@ use crate::terms::{number, quotient};
 use dt_bits::NoMemory;
 use dt_build::Builder;
 use dt_request::KeptRange;
+
+// Where the term stands that tells whether the block of an address isn't above this one.
+fn not_above(
+    builder: &mut Builder,
+    width: u32,
+    last: u128,
+    exponent: u32,
+    address: u32,
+) -> Result<u32, NoMemory>
+    ensures at { IfOk result (λ t. t ≡ (claim_placed builder.old.terms (not_above width last exponent address)).at) }
+    ensures placed { OnOk result (builder.new ≡ placed_in builder.old (claim_placed builder.old.terms (not_above width last exponent address))) }
+{
+    let last = number(builder, width, last)?;
+    let block = builder.block(exponent, address)?;
+    let above = builder.less(last, block)?;
+    builder.not(above)
+}
+
+// Where the term stands that tells whether the block of an address isn't below this one.
+fn not_below(
+    builder: &mut Builder,
+    width: u32,
+    first: u128,
+    exponent: u32,
+    address: u32,
+) -> Result<u32, NoMemory>
+    ensures at { IfOk result (λ t. t ≡ (claim_placed builder.old.terms (not_below width first exponent address)).at) }
+    ensures placed { OnOk result (builder.new ≡ placed_in builder.old (claim_placed builder.old.terms (not_below width first exponent address))) }
+{
+    let block = builder.block(exponent, address)?;
+    let first = number(builder, width, first)?;
+    let below = builder.less(block, first)?;
+    builder.not(below)
+}
 
 // Where the term stands that tells whether the block of an address touches the range, which isn't
 // empty.
@@ -24,21 +59,14 @@ fn touches(
     ensures at { IfOk result (λ t. t ≡ (claim_placed builder.old.terms (touches_form (access_of places) exponent kept address)).at) }
     ensures placed { OnOk result (builder.new ≡ placed_in builder.old (claim_placed builder.old.terms (touches_form (access_of places) exponent kept address))) }
 {
-    if places.address <= exponent {
+    let width = places.address;
+    if width <= exponent {
         return Ok(places.one);
     }
-    let last = number(
-        builder,
-        places.address,
-        quotient(kept.hi.saturating_sub(1), exponent),
-    )?;
-    let block = builder.block(exponent, address)?;
-    let above = builder.less(last, block)?;
-    let reached = builder.not(above)?;
-    let block = builder.block(exponent, address)?;
-    let first = number(builder, places.address, quotient(kept.lo, exponent))?;
-    let below = builder.less(block, first)?;
-    let begun = builder.not(below)?;
+    let last = quotient(kept.hi.saturating_sub(1), exponent);
+    let reached = not_above(builder, width, last, exponent, address)?;
+    let first = quotient(kept.lo, exponent);
+    let begun = not_below(builder, width, first, exponent, address)?;
     builder.both(reached, begun)
 }
 
