@@ -1,7 +1,7 @@
 //! A problem that is built: terms that stand only once, and forms that are required.
 //!
 //! Proved: each call gives exactly the terms and the required positions of the definition of placing
-//! (`dt_forms`), and answers where the term stands. Placing a node takes one look-up by its hash,
+//! (`dt_forms`), with constant operands folded where the call says so, and answers where the term stands. Placing a node takes one look-up by its hash,
 //! apart from the growth of the table and of the list of terms.
 //!
 //! A call answers `NoMemory` where memory ran out, and where the term can't be added to the problem.
@@ -10,6 +10,7 @@
 #![tactic(auto)]
 
 mod builder;
+mod folding;
 mod node;
 mod nodes;
 

@@ -6,8 +6,8 @@ ghost use Rattle.dt_terms.specs.Additions.{kept, node_of};
 use dt_bits::{NoMemory, Op, arity, fits};
 use dt_terms::{Problem, Term};
 
-// How many bits the value of the term at a position has, and 1 where there is no such term.
-fn bits_at(terms: &[Term], term: u32) -> u32
+/// How many bits the value of the term at a position has, and 1 where there is no such term.
+pub(crate) fn bits_at(terms: &[Term], term: u32) -> u32
     ensures { result ≡ bits_at terms.now term }
 {
     match terms.get(term as usize) {

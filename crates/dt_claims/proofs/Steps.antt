@@ -7,7 +7,8 @@ use Rattle.dt_model.specs.ModelData.{ActData, act_of, bind, read, branch, fault,
 use Rattle.dt_model.specs.Flow.{steps_of}
 use Rattle.dt_terms.specs.Problem.{ProblemData}
 use Rattle.dt_forms.specs.Forms.{Form, term}
-use Rattle.dt_build.specs.Building.{demanded}
+use Rattle.dt_forms.specs.Folding.{fold}
+use Rattle.dt_build.specs.Building.{claimed}
 use Rattle.dt_build.proofs.Demanded.{demanded_none}
 use Rattle.dt_table.specs.declared.out.Out.{Out}
 use Rattle.dt_table.specs.Apart.{pages_at}
@@ -104,8 +105,8 @@ pub nothing_left : {A : Type 0} (old rest whole : List A) → rest ≡ [] → ol
 nothing_left old rest whole e h = sym (append-nil old) ∙ ap (λ l. old ++ l) (sym e) ∙ h
 
 -- nothing is left to require
-pub none_required : (p whole : ProblemData) (fs : List Form) → fs ≡ [] → demanded p fs ≡ whole → p ≡ whole
-none_required p whole fs e h = sym (demanded_none p) ∙ ap (demanded p) (sym e) ∙ h
+pub none_required : (p whole : ProblemData) (fs : List Form) → fs ≡ [] → claimed p fs ≡ whole → p ≡ whole
+none_required p whole fs e h = sym (demanded_none fold p) ∙ ap (claimed p) (sym e) ∙ h
 
 -- a list that begins without elements
 pub collected : {A B : Type 0} (f : A → B) (xs made none : List A) (whole : List B) → xs ≡ made → map f made ≡ map f none ++ whole → none ≡ [] → map f xs ≡ whole

@@ -1,7 +1,7 @@
 ghost use Rattle.std.specs.Prelude.{◌≡◌, ◌∷◌, [], map, max, IfOk, OnOk};
 ghost use Rattle.std.specs.List.{flat_map};
-ghost use Rattle.dt_build.specs.Building.{demanded, placed_in};
-ghost use Rattle.dt_forms.specs.Forms.{form_placed};
+ghost use Rattle.dt_build.specs.Building.{claimed, placed_in};
+ghost use Rattle.dt_forms.specs.Folding.{claim_placed};
 ghost use Rattle.dt_table.specs.Apart.{same_block, apart_form};
 ghost use Rattle.dt_table.specs.Pairs.{apart_if, apart_forms};
 ghost use Rattle.dt_claims.specs.Views.{sized, spot, access_of};
@@ -20,8 +20,8 @@ pub(crate) fn same_block(
     a: u32,
     b: u32,
 ) -> Result<u32, NoMemory>
-    ensures at { IfOk result (λ t. t ≡ (form_placed builder.old.terms (same_block (access_of places) exponent a b)).at) }
-    ensures placed { OnOk result (builder.new ≡ placed_in builder.old (form_placed builder.old.terms (same_block (access_of places) exponent a b))) }
+    ensures at { IfOk result (λ t. t ≡ (claim_placed builder.old.terms (same_block (access_of places) exponent a b)).at) }
+    ensures placed { OnOk result (builder.new ≡ placed_in builder.old (claim_placed builder.old.terms (same_block (access_of places) exponent a b))) }
 {
     if places.address <= exponent {
         return Ok(places.one);
@@ -40,7 +40,7 @@ pub(crate) fn require_apart(
     block: SizedOut,
     other: u32,
 ) -> Result<(), NoMemory>
-    ensures { OnOk result (builder.new ≡ demanded builder.old (apart_form (access_of places) (λ _. other) (sized page) (sized block) ∷ [])) }
+    ensures { OnOk result (builder.new ≡ claimed builder.old (apart_form (access_of places) (λ _. other) (sized page) (sized block) ∷ [])) }
 {
     let both = builder.both(page.out.come, other)?;
     let exponent = page.exponent.max(block.exponent);
@@ -57,7 +57,7 @@ fn require_apart_if(
     page: &SpotOut,
     table: &SpotOut,
 ) -> Result<(), NoMemory>
-    ensures { OnOk result (builder.new ≡ demanded builder.old (apart_if (access_of places) (spot page.now) (spot table.now))) }
+    ensures { OnOk result (builder.new ≡ claimed builder.old (apart_if (access_of places) (spot page.now) (spot table.now))) }
 {
     if !can_meet(page, table) {
         return Ok(());
@@ -72,7 +72,7 @@ fn require_page_apart(
     page: &SpotOut,
     tables: &[SpotOut],
 ) -> Result<(), NoMemory>
-    ensures { OnOk result (builder.new ≡ demanded builder.old
+    ensures { OnOk result (builder.new ≡ claimed builder.old
         (flat_map (apart_if (access_of places) (spot page.now)) (map spot tables.now))) }
 {
     for table in tables {
@@ -89,7 +89,7 @@ pub(crate) fn require_pages_apart(
     pages: &[SpotOut],
     tables: &[SpotOut],
 ) -> Result<(), NoMemory>
-    ensures { OnOk result (builder.new ≡ demanded builder.old
+    ensures { OnOk result (builder.new ≡ claimed builder.old
         (apart_forms (access_of places) (map spot pages.now) (map spot tables.now))) }
 {
     for page in pages {

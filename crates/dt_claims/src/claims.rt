@@ -1,7 +1,7 @@
 ghost use Rattle.std.specs.Prelude.{◌≡◌, ◌++◌, map, OnOk};
 ghost use Rattle.dt_model.specs.Accepted.{accepted_data};
 ghost use Rattle.dt_model.specs.ModelData.{data_of};
-ghost use Rattle.dt_build.specs.Building.{demanded};
+ghost use Rattle.dt_build.specs.Building.{claimed};
 ghost use Rattle.dt_table.specs.Pairs.{pair_forms};
 ghost use Rattle.dt_table.specs.Spots.{all_reads};
 ghost use Rattle.dt_table.specs.Extras.{all_extras};
@@ -32,7 +32,7 @@ fn require_words(
     requests: &Requests,
     rows: &[Vec<Out>],
 ) -> Result<(), NoMemory>
-    ensures { OnOk result (builder.new ≡ demanded builder.old
+    ensures { OnOk result (builder.new ≡ claimed builder.old
         (pair_forms (all_reads (data_of model.now) requests.now 0 (rows_of rows.now)))) }
 {
     let reads = all_reads(alloc, model, requests, rows)?;
@@ -47,7 +47,7 @@ fn require_wishes(
     requests: &Requests,
     rows: &[Vec<Out>],
 ) -> Result<(), NoMemory>
-    ensures { OnOk result (builder.new ≡ demanded builder.old
+    ensures { OnOk result (builder.new ≡ claimed builder.old
         (wish_forms (data_of model.now) requests.now 0 requests.now.accesses (rows_of rows.now))) }
 {
     let accesses = requests.accesses.as_slice();
@@ -73,7 +73,7 @@ fn require_blocks(
 ) -> Result<(), NoMemory>
     requires { places ≡ places_of (data_of model.now) requests.now 0 0 }
     ensures { let d = data_of model.now in
-        OnOk result (builder.new ≡ demanded builder.old
+        OnOk result (builder.new ≡ claimed builder.old
         (page_forms d requests.now (rows_of rows.now) ++ keep_forms d requests.now (rows_of rows.now))) }
 {
     let pages = all_pages(alloc, model, requests, rows)?;
@@ -91,7 +91,7 @@ fn require_list(
     requests: &Requests,
     rows: &[Vec<Out>],
 ) -> Result<(), NoMemory>
-    ensures { OnOk result (builder.new ≡ demanded builder.old
+    ensures { OnOk result (builder.new ≡ claimed builder.old
         (list_forms (data_of model.now) requests.now (rows_of rows.now))) }
 {
     require_wishes(alloc, builder, model, requests, rows)?;
@@ -109,7 +109,7 @@ fn require_all_extras(
     requests: &Requests,
     rows: &[Vec<Out>],
 ) -> Result<(), NoMemory>
-    ensures { OnOk result (builder.new ≡ demanded builder.old
+    ensures { OnOk result (builder.new ≡ claimed builder.old
         (extra_forms (data_of model.now) requests.now (rows_of rows.now))) }
 {
     for (k, row) in rows.iter().enumerate() {
@@ -140,7 +140,7 @@ pub fn require_claims(
 ) -> Result<(), NoMemory>
     ensures { let d = accepted_data model.now in
         let rows = map (λ v. v.items) outs.now in
-        OnOk result (builder.new ≡ demanded builder.old (claim_forms d requests.now rows ++ extra_forms d requests.now rows)) }
+        OnOk result (builder.new ≡ claimed builder.old (claim_forms d requests.now rows ++ extra_forms d requests.now rows)) }
 {
     let model = model.model();
     require_words(alloc, builder, model, requests, outs)?;

@@ -2,7 +2,7 @@ ghost use Rattle.std.specs.Prelude.{◌≡◌, ◌++◌, ◌∷◌, [], map, OnO
 ghost use Rattle.std.specs.List.{flat_map};
 ghost use Rattle.dt_model.specs.ModelData.{data_of};
 ghost use Rattle.dt_model.specs.Faults.{steps};
-ghost use Rattle.dt_build.specs.Building.{demanded};
+ghost use Rattle.dt_build.specs.Building.{claimed};
 ghost use Rattle.dt_forms.specs.Forms.{term};
 ghost use Rattle.dt_table.specs.Apart.{pages_at};
 ghost use Rattle.dt_table.specs.Claims.{ends_only};
@@ -34,7 +34,7 @@ fn require_address(
     width: u32,
     test: Test,
 ) -> Result<(), NoMemory>
-    ensures { OnOk result (builder.new ≡ demanded builder.old
+    ensures { OnOk result (builder.new ≡ claimed builder.old
         (ends_only ends_done (steps (data_of model.now)) outs.now
         ++ map (result_form (test_form width test)) (pages_at (steps (data_of model.now)) outs.now))) }
 {
@@ -52,7 +52,7 @@ fn require_read(
     test: Test,
     number: u32,
 ) -> Result<(), NoMemory>
-    ensures { OnOk result (builder.new ≡ demanded builder.old (term made ∷ test_form width test number ∷ [])) }
+    ensures { OnOk result (builder.new ≡ claimed builder.old (term made ∷ test_form width test number ∷ [])) }
 {
     builder.require(made)?;
     require_test(builder, width, test, number)
@@ -69,7 +69,7 @@ fn require_quantity(
     test: Test,
 ) -> Result<(), NoMemory>
     ensures { let d = data_of model.now in
-        OnOk result (builder.new ≡ demanded builder.old
+        OnOk result (builder.new ≡ claimed builder.old
         (quantity_forms d (access_of places) outs.now of (test_form (quantity_width d of) test))) }
 {
     let width = quantity_width(model, of);
@@ -97,7 +97,7 @@ fn require_demand(
     outs: &[Out],
     demand: Demand,
 ) -> Result<(), NoMemory>
-    ensures { OnOk result (builder.new ≡ demanded builder.old
+    ensures { OnOk result (builder.new ≡ claimed builder.old
         (demand_forms (data_of model.now) (access_of places) outs.now demand)) }
 {
     match demand {
@@ -127,7 +127,7 @@ pub(crate) fn require_demands(
     outs: &[Out],
     demands: &[Demand],
 ) -> Result<(), NoMemory>
-    ensures { OnOk result (builder.new ≡ demanded builder.old
+    ensures { OnOk result (builder.new ≡ claimed builder.old
         (flat_map (demand_forms (data_of model.now) (access_of places) outs.now) demands.now)) }
 {
     for demand in demands {

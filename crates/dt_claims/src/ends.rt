@@ -2,7 +2,7 @@ ghost use Rattle.std.specs.Prelude.{◌≡◌, OnOk};
 ghost use Rattle.dt_model.specs.ModelData.{act_of, data_of};
 ghost use Rattle.dt_model.specs.Faults.{steps};
 ghost use Rattle.dt_model.specs.Flow.{steps_of};
-ghost use Rattle.dt_build.specs.Building.{demanded};
+ghost use Rattle.dt_build.specs.Building.{claimed};
 ghost use Rattle.dt_table.specs.Claims.{ends_only};
 ghost use Rattle.dt_ways.specs.Ends.{is_end};
 ghost use Rattle.dt_claims.specs.Endings.{passes};
@@ -45,7 +45,7 @@ pub(crate) fn passes(ending: Ending, act: &Act) -> bool
 
 // The walk doesn't come to the node, where it ends there otherwise.
 fn require_end(builder: &mut Builder, ending: Ending, act: &Act, out: Out) -> Result<(), NoMemory>
-    ensures { OnOk result (builder.new ≡ demanded builder.old (end_forms (passes ending) (act_of act.now) out)) }
+    ensures { OnOk result (builder.new ≡ claimed builder.old (end_forms (passes ending) (act_of act.now) out)) }
 {
     if is_end(act) && !passes(ending, act) {
         return builder.require(out.away);
@@ -60,7 +60,7 @@ fn require_ends_among(
     nodes: &[Node],
     outs: &[Out],
 ) -> Result<(), NoMemory>
-    ensures { OnOk result (builder.new ≡ demanded builder.old (ends_only (passes ending) (steps_of nodes.now) outs.now)) }
+    ensures { OnOk result (builder.new ≡ claimed builder.old (ends_only (passes ending) (steps_of nodes.now) outs.now)) }
 {
     for (node, out) in nodes.iter().zip(outs) {
         require_end(builder, ending, &node.act, *out)?;
@@ -75,7 +75,7 @@ pub(crate) fn require_ends(
     model: &Model,
     outs: &[Out],
 ) -> Result<(), NoMemory>
-    ensures { OnOk result (builder.new ≡ demanded builder.old (ends_only (passes ending) (steps (data_of model.now)) outs.now)) }
+    ensures { OnOk result (builder.new ≡ claimed builder.old (ends_only (passes ending) (steps (data_of model.now)) outs.now)) }
 {
     require_ends_among(builder, ending, model.nodes.as_slice(), outs)
 }

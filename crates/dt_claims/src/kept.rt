@@ -1,9 +1,10 @@
 ghost use Rattle.std.specs.Prelude.{◌≡◌, ◌∷◌, [], ◌<◌, map, IfOk, OnOk};
 ghost use Rattle.std.specs.List.{flat_map};
-ghost use Rattle.dt_build.specs.Building.{demanded, placed_in};
-ghost use Rattle.dt_forms.specs.Forms.{form_placed};
+ghost use Rattle.dt_build.specs.Building.{claimed, placed_in};
+ghost use Rattle.dt_forms.specs.Folding.{claim_placed};
 ghost use Rattle.dt_table.specs.Kept.{touches_form, kept_form, kept_forms};
 ghost use Rattle.dt_table.specs.Spots.{only_if};
+ghost use Rattle.dt_claims.specs.Blocks.{not_above, not_below};
 ghost use Rattle.dt_claims.specs.Views.{sized, spot, access_of};
 
 use crate::places::Places;
@@ -14,6 +15,40 @@ use dt_bits::NoMemory;
 use dt_build::Builder;
 use dt_request::KeptRange;
 
+// Where the term stands that tells whether the block of an address isn't above this one.
+fn not_above(
+    builder: &mut Builder,
+    width: u32,
+    last: u128,
+    exponent: u32,
+    address: u32,
+) -> Result<u32, NoMemory>
+    ensures at { IfOk result (λ t. t ≡ (claim_placed builder.old.terms (not_above width last exponent address)).at) }
+    ensures placed { OnOk result (builder.new ≡ placed_in builder.old (claim_placed builder.old.terms (not_above width last exponent address))) }
+{
+    let last = number(builder, width, last)?;
+    let block = builder.block(exponent, address)?;
+    let above = builder.less(last, block)?;
+    builder.not(above)
+}
+
+// Where the term stands that tells whether the block of an address isn't below this one.
+fn not_below(
+    builder: &mut Builder,
+    width: u32,
+    first: u128,
+    exponent: u32,
+    address: u32,
+) -> Result<u32, NoMemory>
+    ensures at { IfOk result (λ t. t ≡ (claim_placed builder.old.terms (not_below width first exponent address)).at) }
+    ensures placed { OnOk result (builder.new ≡ placed_in builder.old (claim_placed builder.old.terms (not_below width first exponent address))) }
+{
+    let block = builder.block(exponent, address)?;
+    let first = number(builder, width, first)?;
+    let below = builder.less(block, first)?;
+    builder.not(below)
+}
+
 // Where the term stands that tells whether the block of an address touches the range, which isn't
 // empty.
 fn touches(
@@ -23,24 +58,17 @@ fn touches(
     kept: KeptRange,
     address: u32,
 ) -> Result<u32, NoMemory>
-    ensures at { IfOk result (λ t. t ≡ (form_placed builder.old.terms (touches_form (access_of places) exponent kept address)).at) }
-    ensures placed { OnOk result (builder.new ≡ placed_in builder.old (form_placed builder.old.terms (touches_form (access_of places) exponent kept address))) }
+    ensures at { IfOk result (λ t. t ≡ (claim_placed builder.old.terms (touches_form (access_of places) exponent kept address)).at) }
+    ensures placed { OnOk result (builder.new ≡ placed_in builder.old (claim_placed builder.old.terms (touches_form (access_of places) exponent kept address))) }
 {
-    if places.address <= exponent {
+    let width = places.address;
+    if width <= exponent {
         return Ok(places.one);
     }
-    let last = number(
-        builder,
-        places.address,
-        quotient(kept.hi.saturating_sub(1), exponent),
-    )?;
-    let block = builder.block(exponent, address)?;
-    let above = builder.less(last, block)?;
-    let reached = builder.not(above)?;
-    let block = builder.block(exponent, address)?;
-    let first = number(builder, places.address, quotient(kept.lo, exponent))?;
-    let below = builder.less(block, first)?;
-    let begun = builder.not(below)?;
+    let last = quotient(kept.hi.saturating_sub(1), exponent);
+    let reached = not_above(builder, width, last, exponent, address)?;
+    let first = quotient(kept.lo, exponent);
+    let begun = not_below(builder, width, first, exponent, address)?;
     builder.both(reached, begun)
 }
 
@@ -52,7 +80,7 @@ fn require_kept(
     block: SizedOut,
     made: u32,
 ) -> Result<(), NoMemory>
-    ensures { OnOk result (builder.new ≡ demanded builder.old (kept_form (access_of places) kept (λ _. made) (sized block) ∷ [])) }
+    ensures { OnOk result (builder.new ≡ claimed builder.old (kept_form (access_of places) kept (λ _. made) (sized block) ∷ [])) }
 {
     let touched = touches(builder, places, block.exponent, kept, block.out.value)?;
     let both = builder.both(made, touched)?;
@@ -68,7 +96,7 @@ fn require_kept_if(
     block: &SpotOut,
     made: u32,
 ) -> Result<(), NoMemory>
-    ensures { OnOk result (builder.new ≡ demanded builder.old (only_if block.now.live (kept_form (access_of places) kept (λ _. made) (sized block.now.of)))) }
+    ensures { OnOk result (builder.new ≡ claimed builder.old (only_if block.now.live (kept_form (access_of places) kept (λ _. made) (sized block.now.of)))) }
 {
     if !block.live {
         return Ok(());
@@ -83,7 +111,7 @@ fn require_pages_kept(
     pages: &[SpotOut],
     kept: KeptRange,
 ) -> Result<(), NoMemory>
-    ensures { OnOk result (builder.new ≡ demanded builder.old
+    ensures { OnOk result (builder.new ≡ claimed builder.old
         (flat_map (λ x. only_if x.live (kept_form (access_of places) kept (λ o. o.come) x.of)) (map spot pages.now))) }
 {
     for page in pages {
@@ -99,7 +127,7 @@ fn require_tables_kept(
     tables: &[SpotOut],
     kept: KeptRange,
 ) -> Result<(), NoMemory>
-    ensures { OnOk result (builder.new ≡ demanded builder.old
+    ensures { OnOk result (builder.new ≡ claimed builder.old
         (flat_map (λ x. only_if x.live (kept_form (access_of places) kept (λ o. o.by_then) x.of)) (map spot tables.now))) }
 {
     for table in tables {
@@ -116,7 +144,7 @@ fn require_range_kept(
     tables: &[SpotOut],
     kept: KeptRange,
 ) -> Result<(), NoMemory>
-    ensures { OnOk result (builder.new ≡ demanded builder.old
+    ensures { OnOk result (builder.new ≡ claimed builder.old
         (kept_forms (access_of places) (map spot pages.now) (map spot tables.now) kept)) }
 {
     if kept.lo >= kept.hi {
@@ -135,7 +163,7 @@ pub(crate) fn require_ranges_kept(
     tables: &[SpotOut],
     ranges: &[KeptRange],
 ) -> Result<(), NoMemory>
-    ensures { OnOk result (builder.new ≡ demanded builder.old
+    ensures { OnOk result (builder.new ≡ claimed builder.old
         (flat_map (kept_forms (access_of places) (map spot pages.now) (map spot tables.now)) ranges.now)) }
 {
     for kept in ranges {

@@ -1,8 +1,8 @@
 ghost use Rattle.std.specs.Prelude.{◌≡◌, ◌++◌, ◌∷◌, [], map, IfOk, OnOk};
 ghost use Rattle.std.specs.List.{flat_map};
 ghost use Rattle.dt_model.specs.ModelData.{data_of};
-ghost use Rattle.dt_build.specs.Building.{demanded, placed_in};
-ghost use Rattle.dt_forms.specs.Forms.{form_placed};
+ghost use Rattle.dt_build.specs.Building.{claimed, placed_in};
+ghost use Rattle.dt_forms.specs.Folding.{claim_placed};
 ghost use Rattle.dt_table.specs.Links.{one_block, apart_blocks, one_cell, one_page, reads_forms, outs_of, page_if, pages_forms, access_pages, link_forms, side_at};
 ghost use Rattle.dt_claims.specs.Relations.{relation_form, page_relation_form};
 ghost use Rattle.dt_claims.specs.Views.{sized, spot, access_of, rows_of};
@@ -47,8 +47,8 @@ fn one_block(
     x: SizedOut,
     y: SizedOut,
 ) -> Result<u32, NoMemory>
-    ensures at { IfOk result (λ t. t ≡ (form_placed builder.old.terms (one_block (access_of places) (sized x) (sized y))).at) }
-    ensures placed { OnOk result (builder.new ≡ placed_in builder.old (form_placed builder.old.terms (one_block (access_of places) (sized x) (sized y)))) }
+    ensures at { IfOk result (λ t. t ≡ (claim_placed builder.old.terms (one_block (access_of places) (sized x) (sized y))).at) }
+    ensures placed { OnOk result (builder.new ≡ placed_in builder.old (claim_placed builder.old.terms (one_block (access_of places) (sized x) (sized y)))) }
 {
     if x.exponent == y.exponent {
         same_block(builder, places, x.exponent, x.out.value, y.out.value)
@@ -64,8 +64,8 @@ fn apart_blocks(
     x: SizedOut,
     y: SizedOut,
 ) -> Result<u32, NoMemory>
-    ensures at { IfOk result (λ t. t ≡ (form_placed builder.old.terms (apart_blocks (access_of places) (sized x) (sized y))).at) }
-    ensures placed { OnOk result (builder.new ≡ placed_in builder.old (form_placed builder.old.terms (apart_blocks (access_of places) (sized x) (sized y)))) }
+    ensures at { IfOk result (λ t. t ≡ (claim_placed builder.old.terms (apart_blocks (access_of places) (sized x) (sized y))).at) }
+    ensures placed { OnOk result (builder.new ≡ placed_in builder.old (claim_placed builder.old.terms (apart_blocks (access_of places) (sized x) (sized y)))) }
 {
     let exponent = x.exponent.max(y.exponent);
     let same = same_block(builder, places, exponent, x.out.value, y.out.value)?;
@@ -80,8 +80,8 @@ fn place_relation(
     x: SizedOut,
     y: SizedOut,
 ) -> Result<u32, NoMemory>
-    ensures at { IfOk result (λ t. t ≡ (form_placed builder.old.terms (relation_form (access_of places) relation (sized x) (sized y))).at) }
-    ensures placed { OnOk result (builder.new ≡ placed_in builder.old (form_placed builder.old.terms (relation_form (access_of places) relation (sized x) (sized y)))) }
+    ensures at { IfOk result (λ t. t ≡ (claim_placed builder.old.terms (relation_form (access_of places) relation (sized x) (sized y))).at) }
+    ensures placed { OnOk result (builder.new ≡ placed_in builder.old (claim_placed builder.old.terms (relation_form (access_of places) relation (sized x) (sized y)))) }
 {
     match relation {
         Relation::OneTable => one_block(builder, places, x, y),
@@ -98,7 +98,7 @@ fn require_reads(
     x: SizedOut,
     y: SizedOut,
 ) -> Result<(), NoMemory>
-    ensures { OnOk result (builder.new ≡ demanded builder.old
+    ensures { OnOk result (builder.new ≡ claimed builder.old
         (reads_forms (relation_form (access_of places) relation) (sized x) (sized y))) }
 {
     builder.require(x.out.by_then)?;
@@ -119,7 +119,7 @@ fn require_sides(
 ) -> Result<(), NoMemory>
     ensures { let d = data_of model.now in
         let outs = rows_of rows.now in
-        OnOk result (builder.new ≡ demanded builder.old
+        OnOk result (builder.new ≡ claimed builder.old
         (reads_forms (relation_form (access_of places) relation) (side_at d outs a) (side_at d outs b))) }
 {
     let x = side_at(model, rows, a);
@@ -134,7 +134,7 @@ fn require_one_page(
     x: SizedOut,
     y: SizedOut,
 ) -> Result<(), NoMemory>
-    ensures { OnOk result (builder.new ≡ demanded builder.old (one_page (access_of places) (sized x) (sized y) ∷ [])) }
+    ensures { OnOk result (builder.new ≡ claimed builder.old (one_page (access_of places) (sized x) (sized y) ∷ [])) }
 {
     let both = builder.both(x.out.come, y.out.come)?;
     let never = builder.not(both)?;
@@ -154,7 +154,7 @@ fn require_page_pair(
     x: SizedOut,
     y: SizedOut,
 ) -> Result<(), NoMemory>
-    ensures { OnOk result (builder.new ≡ demanded builder.old
+    ensures { OnOk result (builder.new ≡ claimed builder.old
         (page_relation_form (access_of places) relation (sized x) (sized y) ∷ [])) }
 {
     match relation {
@@ -171,7 +171,7 @@ fn require_page_if(
     x: &SpotOut,
     y: &SpotOut,
 ) -> Result<(), NoMemory>
-    ensures { OnOk result (builder.new ≡ demanded builder.old
+    ensures { OnOk result (builder.new ≡ claimed builder.old
         (page_if (page_relation_form (access_of places) relation) (spot x.now) (spot y.now))) }
 {
     if !(x.live && y.live) {
@@ -188,7 +188,7 @@ fn require_page_with(
     page: &SpotOut,
     others: &[SpotOut],
 ) -> Result<(), NoMemory>
-    ensures { OnOk result (builder.new ≡ demanded builder.old
+    ensures { OnOk result (builder.new ≡ claimed builder.old
         (flat_map (page_if (page_relation_form (access_of places) relation) (spot page.now)) (map spot others.now))) }
 {
     for other in others {
@@ -205,7 +205,7 @@ fn require_page_pairs(
     pages: &[SpotOut],
     others: &[SpotOut],
 ) -> Result<(), NoMemory>
-    ensures { OnOk result (builder.new ≡ demanded builder.old
+    ensures { OnOk result (builder.new ≡ claimed builder.old
         (flat_map (λ x. flat_map (page_if (page_relation_form (access_of places) relation) x) (map spot others.now)) (map spot pages.now))) }
 {
     for page in pages {
@@ -249,7 +249,7 @@ fn require_pages(
     b: u32,
 ) -> Result<(), NoMemory>
     ensures { let d = data_of model.now in let r = requests.now in let outs = rows_of rows.now in
-        OnOk result (builder.new ≡ demanded builder.old
+        OnOk result (builder.new ≡ claimed builder.old
         (pages_forms d (page_relation_form (access_of places) relation) (outs_of outs a) (outs_of outs b) (access_pages d r outs a) (access_pages d r outs b))) }
 {
     require_ends(builder, Ending::Result, model, outs_of(rows, a))?;
@@ -275,7 +275,7 @@ fn require_link(
     rows: &[Vec<Out>],
     link: Link,
 ) -> Result<(), NoMemory>
-    ensures { OnOk result (builder.new ≡ demanded builder.old
+    ensures { OnOk result (builder.new ≡ claimed builder.old
         (link_forms (data_of model.now) requests.now (access_of places) (rows_of rows.now) link)) }
 {
     match link {
@@ -313,7 +313,7 @@ pub(crate) fn require_links(
     rows: &[Vec<Out>],
     links: &[Link],
 ) -> Result<(), NoMemory>
-    ensures { OnOk result (builder.new ≡ demanded builder.old
+    ensures { OnOk result (builder.new ≡ claimed builder.old
         (flat_map (link_forms (data_of model.now) requests.now (access_of places) (rows_of rows.now)) links.now)) }
 {
     for link in links {

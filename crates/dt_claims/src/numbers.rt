@@ -1,6 +1,6 @@
 ghost use Rattle.std.specs.Prelude.{◌≡◌, ◌∷◌, [], map, IfOk, OnOk};
-ghost use Rattle.dt_build.specs.Building.{demanded, placed_in};
-ghost use Rattle.dt_forms.specs.Forms.{form_placed};
+ghost use Rattle.dt_build.specs.Building.{claimed, placed_in};
+ghost use Rattle.dt_forms.specs.Folding.{claim_placed};
 ghost use Rattle.dt_table.specs.Demands.{is_masked_form, is_within_form, result_form};
 ghost use Rattle.dt_claims.specs.Tests.{test_form};
 ghost use Rattle.dt_claims.specs.Views.{sized};
@@ -27,8 +27,8 @@ fn place_masked(
     value: u128,
     term: u32,
 ) -> Result<u32, NoMemory>
-    ensures at { IfOk result (λ t. t ≡ (form_placed builder.old.terms (is_masked_form width mask value term)).at) }
-    ensures placed { OnOk result (builder.new ≡ placed_in builder.old (form_placed builder.old.terms (is_masked_form width mask value term))) }
+    ensures at { IfOk result (λ t. t ≡ (claim_placed builder.old.terms (is_masked_form width mask value term)).at) }
+    ensures placed { OnOk result (builder.new ≡ placed_in builder.old (claim_placed builder.old.terms (is_masked_form width mask value term))) }
 {
     let mask = number(builder, width, mask)?;
     let masked = builder.both(term, mask)?;
@@ -44,8 +44,8 @@ fn place_within(
     hi: u128,
     term: u32,
 ) -> Result<u32, NoMemory>
-    ensures at { IfOk result (λ t. t ≡ (form_placed builder.old.terms (is_within_form width lo hi term)).at) }
-    ensures placed { OnOk result (builder.new ≡ placed_in builder.old (form_placed builder.old.terms (is_within_form width lo hi term))) }
+    ensures at { IfOk result (λ t. t ≡ (claim_placed builder.old.terms (is_within_form width lo hi term)).at) }
+    ensures placed { OnOk result (builder.new ≡ placed_in builder.old (claim_placed builder.old.terms (is_within_form width lo hi term))) }
 {
     let lo = number(builder, width, lo)?;
     let below = builder.less(term, lo)?;
@@ -58,8 +58,8 @@ fn place_within(
 
 // Where the term stands that tells whether a number of this width passes the test.
 fn place_test(builder: &mut Builder, width: u32, test: Test, term: u32) -> Result<u32, NoMemory>
-    ensures at { IfOk result (λ t. t ≡ (form_placed builder.old.terms (test_form width test term)).at) }
-    ensures placed { OnOk result (builder.new ≡ placed_in builder.old (form_placed builder.old.terms (test_form width test term))) }
+    ensures at { IfOk result (λ t. t ≡ (claim_placed builder.old.terms (test_form width test term)).at) }
+    ensures placed { OnOk result (builder.new ≡ placed_in builder.old (claim_placed builder.old.terms (test_form width test term))) }
 {
     match test {
         Test::Masked { mask, value } => place_masked(builder, width, mask, value, term),
@@ -74,7 +74,7 @@ pub(crate) fn require_test(
     test: Test,
     term: u32,
 ) -> Result<(), NoMemory>
-    ensures { OnOk result (builder.new ≡ demanded builder.old (test_form width test term ∷ [])) }
+    ensures { OnOk result (builder.new ≡ claimed builder.old (test_form width test term ∷ [])) }
 {
     let passes = place_test(builder, width, test, term)?;
     builder.require(passes)
@@ -87,10 +87,10 @@ fn require_result_test(
     test: Test,
     page: SizedOut,
 ) -> Result<(), NoMemory>
-    ensures { OnOk result (builder.new ≡ demanded builder.old (result_form (test_form width test) (sized page) ∷ [])) }
+    ensures { OnOk result (builder.new ≡ claimed builder.old (result_form (test_form width test) (sized page) ∷ [])) }
 {
     let passes = place_test(builder, width, test, page.out.value)?;
-    let whole = builder.place(Op::Or, page.out.away, passes, 0)?;
+    let whole = builder.fold(Op::Or, page.out.away, passes, 0)?;
     builder.require(whole)
 }
 
@@ -101,7 +101,7 @@ pub(crate) fn require_result_tests(
     test: Test,
     pages: &[SizedOut],
 ) -> Result<(), NoMemory>
-    ensures { OnOk result (builder.new ≡ demanded builder.old (map (result_form (test_form width test)) (map sized pages.now))) }
+    ensures { OnOk result (builder.new ≡ claimed builder.old (map (result_form (test_form width test)) (map sized pages.now))) }
 {
     for page in pages {
         require_result_test(builder, width, test, *page)?;

@@ -12,7 +12,7 @@ use Rattle.dt_terms.specs.Problem.{ProblemData}
 use Rattle.dt_terms.specs.Values.{values_of}
 use Rattle.dt_forms.specs.Meaning.{values}
 use Rattle.dt_forms.specs.Placing.{place_const}
-use Rattle.dt_build.specs.Building.{placed_in, of_choices, demanded}
+use Rattle.dt_build.specs.Building.{placed_in, of_choices, claimed}
 use Rattle.dt_unroll.specs.Building.{problem_of}
 use Rattle.dt_table.specs.declared.out.Out.{Out}
 use Rattle.dt_table.specs.Table.{choices, bit_node, start, built, table, claim_forms, extra_forms}
@@ -36,11 +36,11 @@ started d r a b c e f g =
     g ∙ ap (λ (p : ProblemData). placed_in p (place_const p.terms 1 1)) second ∙ ap with_terms (one_placed (choices d r) (are_choices d r))
 
 -- the claims make it whole
-pub finished : (d : ModelData) (r : Requests) (p : ProblemData) (rows : List (List Out)) → p ≡ problem_of (built d r) → rows ≡ (built d r).outs → demanded p (claim_forms d r rows ++ extra_forms d r rows) ≡ table d r
+pub finished : (d : ModelData) (r : Requests) (p : ProblemData) (rows : List (List Out)) → p ≡ problem_of (built d r) → rows ≡ (built d r).outs → claimed p (claim_forms d r rows ++ extra_forms d r rows) ≡ table d r
 unfolding table
 finished d r p rows e f =
-    ap (λ (q : ProblemData). demanded q (claim_forms d r rows ++ extra_forms d r rows)) e
-    ∙ ap (λ (os : List (List Out)). demanded (problem_of (built d r)) (claim_forms d r os ++ extra_forms d r os)) f
+    ap (λ (q : ProblemData). claimed q (claim_forms d r rows ++ extra_forms d r rows)) e
+    ∙ ap (λ (os : List (List Out)). claimed (problem_of (built d r)) (claim_forms d r os ++ extra_forms d r os)) f
 
 -- the image whose parts are told
 pub image_built : (d : ModelData) (r : Requests) (numbers xs : List ℕ) (bytes : ℕ) (ps : List ActData) (rows : List (List Out)) (words : List Word) (contexts : List (List ℕ)) (accesses : List ImageAccess)

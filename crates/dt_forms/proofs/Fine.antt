@@ -10,10 +10,11 @@ use Rattle.dt_model.specs.Widths.{fitted}
 use Rattle.dt_terms.specs.declared.term.Term.{Term}
 use Rattle.dt_terms.specs.Terms.{AreTerms, bits_at}
 use Rattle.dt_terms.specs.Problem.{IsTest}
-use Rattle.dt_forms.specs.Forms.{Form, term, number, form1, form2, form3, form_placed, all_required, HasForm, HaveOps, not_of, both_of, implies, same_of, less_of}
+use Rattle.dt_forms.specs.Forms.{Form, term, number, form1, form2, form3, Placing, placed_by, form_placed, required_by, HasForm, HaveOps, not_of, both_of, implies, same_of, less_of}
 use Rattle.dt_forms.specs.Sizes.{form_width, form_size, Grows}
-use Rattle.dt_forms.proofs.Sizes.{grows_none, grows_on}
-use Rattle.dt_forms.proofs.Forms.{width_on, form_stands, IsStanding}
+use Rattle.dt_forms.proofs.Sizes.{Puts, place_can, grows_none, grows_on}
+use Rattle.dt_forms.specs.Placing.{place}
+use Rattle.dt_forms.proofs.Forms.{width_on, stands_by, IsStanding}
 
 -- ---- terms of a width
 
@@ -35,14 +36,14 @@ pub record IsFine (terms : List Term) (f : Form) (w : ℕ) : Type 0 where
 pub fine_on : (xs ys : List Term) (k : ℕ) (f : Form) (w : ℕ) → Grows xs ys k → IsFine xs f w → IsFine ys f w
 fine_on xs ys k f w g h = record { has = h.has; ops = h.ops; width_is = width_on xs ys k f w g h.width_is }
 
-pub fine_stands : (terms : List Term) (f : Form) (w : ℕ) → AreTerms terms → IsFine terms f w → IsStanding terms f w
-fine_stands terms f w h i = form_stands f terms w h i.has i.ops i.width_is
+pub fine_stands : (placing : Placing) → Puts placing → (terms : List Term) (f : Form) (w : ℕ) → AreTerms terms → IsFine terms f w → IsStanding placing terms f w
+fine_stands placing puts terms f w h i = stands_by placing puts f terms w h i.has i.ops i.width_is
 
 pub fine_sized : (terms : List Term) (f : Form) (w : ℕ) → AreTerms terms → IsFine terms f w → IsSized (form_placed terms f).terms (form_placed terms f).at w
-fine_sized terms f w h i = let p = (fine_stands terms f w h i).put_is in record { within = p.within; bits = p.bits }
+fine_sized terms f w h i = let p = (fine_stands place place_can terms f w h i).put_is in record { within = p.within; bits = p.bits }
 
 pub fine_grows : (terms : List Term) (f : Form) (w : ℕ) → AreTerms terms → IsFine terms f w → Grows terms (form_placed terms f).terms (form_size f)
-fine_grows terms f w h i = (fine_stands terms f w h i).put_is.grows
+fine_grows terms f w h i = (fine_stands place place_can terms f w h i).put_is.grows
 
 pub term_fine : (terms : List Term) (t w : ℕ) → IsSized terms t w → IsFine terms (term t) w
 term_fine terms t w h = record { has = tt; ops = tt; width_is = cond-true (ltb t (length terms)) (Some (bits_at terms t)) None (lt-ltb t (length terms) h.within) ∙ ap (λ (n : ℕ). Some n) h.bits }
@@ -140,19 +141,19 @@ tests_on xs ys k [] g h = tt
 tests_on xs ys k (t ∷ ts) g h = ((omega (arith, g.longer, h.0.0), g.same t h.0.0 ∙ h.0.1), tests_on xs ys k ts g h.1)
 
 -- what is required of forms that fit
-pub record AreRequired (terms : List Term) (fs : List Form) : Type 0 where
-  pub grows : Grows terms (all_required terms fs).terms (forms_size fs)
-  pub tests : AllByRecursion (IsTest (all_required terms fs).terms) (all_required terms fs).required
+pub record AreRequired (placing : Placing) (terms : List Term) (fs : List Form) : Type 0 where
+  pub grows : Grows terms (required_by placing terms fs).terms (forms_size fs)
+  pub tests : AllByRecursion (IsTest (required_by placing terms fs).terms) (required_by placing terms fs).required
 
-pub all_stand : (fs : List Form) (terms : List Term) → AreTerms terms → AreFine terms fs → AreRequired terms fs
-all_stand [] terms h i = record { grows = grows_none terms h; tests = tt }
-all_stand (f ∷ fs) terms h i =
-    let x = form_placed terms f in
-    let g = fine_grows terms f 1 h i.0 in
-    let s = fine_sized terms f 1 h i.0 in
-    let rest = all_stand fs x.terms g.terms_are (all_on terms x.terms (form_size f) fs g i.1) in
+pub all_stand : (placing : Placing) → Puts placing → (fs : List Form) (terms : List Term) → AreTerms terms → AreFine terms fs → AreRequired placing terms fs
+all_stand placing puts [] terms h i = record { grows = grows_none terms h; tests = tt }
+all_stand placing puts (f ∷ fs) terms h i =
+    let x = placed_by placing terms f in
+    let s = (fine_stands placing puts terms f 1 h i.0).put_is in
+    let g = s.grows in
+    let rest = all_stand placing puts fs x.terms g.terms_are (all_on terms x.terms (form_size f) fs g i.1) in
     record {
-      grows = grows_on terms x.terms (all_required x.terms fs).terms (form_size f) (forms_size fs) g rest.grows;
+      grows = grows_on terms x.terms (required_by placing x.terms fs).terms (form_size f) (forms_size fs) g rest.grows;
       tests = ((omega (arith, s.within, rest.grows.longer), rest.grows.same x.at s.within ∙ s.bits), rest.tests);
     }
 

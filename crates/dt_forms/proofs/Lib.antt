@@ -1,5 +1,6 @@
 pub mod Fine
 pub mod Fitted
+pub mod Folding
 pub mod FormValues
 pub mod Forms
 pub mod Lawful

@@ -23,6 +23,7 @@ use Rattle.dt_terms.specs.Problem.{most_terms}
 use Rattle.dt_bits.specs.Ops.{IsOp}
 use Rattle.dt_forms.specs.Placing.{place}
 use Rattle.dt_forms.specs.Room.{FitsPlace}
+use Rattle.dt_forms.specs.Forms.{Placing}
 use Rattle.dt_forms.specs.Placing.{put, shared}
 use Rattle.dt_forms.specs.Same.{same_term}
 use Rattle.dt_forms.proofs.Lawful.{same_term_is}
@@ -120,16 +121,20 @@ three_fits terms op a b c m n o w r l j k e g h f =
     (fits_parts op _ _ _ (width w) (three_of terms op a b c m n o w r l j k e g h f)).0
 
 -- a node whose operands fit; it can be placed where there is room
-pub record IsPlacedAt (terms : List Term) (op : Op) (a b c w : ℕ) : Type 0 where
-  pub can : length terms + 1 ≤ most_terms → FitsPlace terms op a b c
-  pub put_is : IsPut terms (place terms op a b c).terms (place terms op a b c).at w 1
+pub record IsPlacedAt (placing : Placing) (terms : List Term) (op : Op) (a b c w : ℕ) : Type 0 where
+  pub can : length terms + 1 ≤ most_terms → FitsPlace placing terms op a b c
+  pub put_is : IsPut terms (placing terms op a b c).terms (placing terms op a b c).at w 1
 
-fault_parts : (b q : Bool) → cond (not b) (Some Operand) (cond (not q) (Some Width) None) ≡ None → (b ≡ true) × (q ≡ true)
+-- nodes whose operands fit are put where there is room
+abbrev pub Puts : Placing → Type 0
+Puts placing = (terms : List Term) (op : Op) (a b c w : ℕ) → AreTerms terms → IsOp op → operands_fault terms op a b c ≡ None → (width_of_term (node_of terms op a b c)).0 ≡ w → IsWidth w → IsPlacedAt placing terms op a b c w
+
+pub fault_parts : (b q : Bool) → cond (not b) (Some Operand) (cond (not q) (Some Width) None) ≡ None → (b ≡ true) × (q ≡ true)
 fault_parts true true e = (refl, refl)
 fault_parts true false e = absurd (cc)
 fault_parts false q e = absurd (cc)
 
-pub place_can : (terms : List Term) (op : Op) (a b c w : ℕ) → AreTerms terms → IsOp op → operands_fault terms op a b c ≡ None → (width_of_term (node_of terms op a b c)).0 ≡ w → IsWidth w → IsPlacedAt terms op a b c w
+pub place_can : Puts place
 place_can terms op a b c w h i f e k =
     let p = fault_parts (are_named terms op a b c) (is_fit terms op a b c) f in
     let q = put_grows terms (node_of terms op a b c) h (node_is terms op a b c i p.0 p.1 (subst IsWidth (sym e) k)) in

@@ -19,22 +19,30 @@ pub data Form : Type 0 where
   form2 : Op → Form → Form → Form
   form3 : Op → Form → Form → Form → Form
 
--- where a form stands, its parts put before it
+-- where the node of an operator over terms is put
+abbrev pub Placing : Type 0
+Placing = List Term → Op → ℕ → ℕ → ℕ → Placed
+
+-- where a form is put, its parts before it
+abbrev pub placed_by : Placing → List Term → Form → Placed
+placed_by placing terms (term t) = placed_at terms t
+placed_by placing terms (number w n) = place_const terms w n
+placed_by placing terms (form1 op a) =
+    let x = placed_by placing terms a in
+    placing x.terms op x.at 0 0
+placed_by placing terms (form2 op a b) =
+    let x = placed_by placing terms a in
+    let y = placed_by placing x.terms b in
+    placing y.terms op x.at y.at 0
+placed_by placing terms (form3 op a b c) =
+    let x = placed_by placing terms a in
+    let y = placed_by placing x.terms b in
+    let z = placed_by placing y.terms c in
+    placing z.terms op x.at y.at z.at
+
+-- where a form stands, each part as the node of its operator
 abbrev pub form_placed : List Term → Form → Placed
-form_placed terms (term t) = placed_at terms t
-form_placed terms (number w n) = place_const terms w n
-form_placed terms (form1 op a) =
-    let x = form_placed terms a in
-    place x.terms op x.at 0 0
-form_placed terms (form2 op a b) =
-    let x = form_placed terms a in
-    let y = form_placed x.terms b in
-    place y.terms op x.at y.at 0
-form_placed terms (form3 op a b c) =
-    let x = form_placed terms a in
-    let y = form_placed x.terms b in
-    let z = form_placed y.terms c in
-    place z.terms op x.at y.at z.at
+form_placed terms f = placed_by place terms f
 
 -- an operand that isn't there
 abbrev pub nothing : Bv
@@ -55,12 +63,15 @@ pub record Required : Type 0 where
   pub required : List ℕ
 
 -- each of the forms is put behind the terms in turn, and required
-abbrev pub all_required : List Term → List Form → Required
-all_required terms [] = record { terms = terms; required = [] }
-all_required terms (f ∷ fs) =
-    let x = form_placed terms f in
-    let r = all_required x.terms fs in
+abbrev pub required_by : Placing → List Term → List Form → Required
+required_by placing terms [] = record { terms = terms; required = [] }
+required_by placing terms (f ∷ fs) =
+    let x = placed_by placing terms f in
+    let r = required_by placing x.terms fs in
     record { terms = r.terms; required = x.at ∷ r.required }
+
+abbrev pub all_required : List Term → List Form → Required
+all_required terms fs = required_by place terms fs
 
 -- ---- words for forms
 

@@ -1,4 +1,5 @@
 pub mod Claims
+pub mod Folding
 pub mod Forms
 pub mod Laws
 pub mod Meaning

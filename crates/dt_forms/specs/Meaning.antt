@@ -1,12 +1,12 @@
 -- Values for terms.
 use Rattle.dt_terms.specs.Values.{bv_at, values_of}
-use Rattle.std.specs.Prelude.{◌≡◌, ℕ, ◌<◌, ◌==◌, if◌then◌else◌, Bool, List, length}
+use Rattle.std.specs.Prelude.{◌≡◌, ℕ, ◌<◌, ◌^◌, ◌==◌, if◌then◌else◌, Bool, List, length}
 use Rattle.dt_bits.specs.Bits.{width}
 use Rattle.dt_bits.specs.Ops.{applied}
 use Rattle.dt_bits.specs.declared.value.Bv.{Bv}
 use Rattle.dt_terms.specs.declared.term.Term.{Term}
 use Rattle.dt_terms.specs.declared.term.Term.TheVariants.{Choice, Node}
-use Rattle.dt_terms.specs.Terms.{term_at}
+use Rattle.dt_terms.specs.Terms.{term_at, bits_at}
 
 -- a value for each position
 abbrev pub Valuation : Type 0
@@ -19,6 +19,12 @@ HasValue v (Node op a b c w) x = x ≡ applied op (v a) (v b) (v c)
 
 abbrev pub IsLawful : Valuation → List Term → Type 0
 IsLawful v terms = (t : ℕ) → t < length terms → HasValue v (term_at terms t) (v t)
+
+-- lawful values, each of its term's width and below two to its width
+pub record AreValues (v : Valuation) (terms : List Term) : Type 0 where
+  pub lawful : IsLawful v terms
+  pub wide : (t : ℕ) → t < length terms → (v t).width.0 ≡ bits_at terms t
+  pub ranged : (t : ℕ) → (v t).bits < 2 ^ (v t).width.0
 
 -- a truth as a value of one bit
 abbrev pub flag : Bool → Bv

@@ -2,7 +2,7 @@
 use Rattle.std.specs.Prelude.{◌≡◌, ◌<◌, ◌≤◌}
 use Rattle.dt_bits.specs.Bits.{IsWidth}
 use Rattle.dt_terms.specs.Terms.{AreTerms}
-use Rattle.dt_forms.specs.Forms.{form_placed}
+use Rattle.dt_forms.specs.Forms.{Placing, placed_by}
 use Rattle.dt_forms.specs.Room.{CanPlace}
 use Rattle.std.specs.Prelude.{ℕ, ◌+◌, nat_lt, if◌then◌else◌, List, Option, Some, None, length}
 use Rattle.dt_model.specs.Widths.{fitted, is_constant}
@@ -42,7 +42,7 @@ pub record IsPut (terms more : List Term) (t w k : ℕ) : Type 0 where
   pub bits : bits_at more t ≡ w
 
 -- a form that is placed: it can be, and stands with this width
-pub record IsFormPut (terms : List Term) (f : Form) (w : ℕ) : Type 0 where
-  pub can : CanPlace terms f
-  pub put_is : IsPut terms (form_placed terms f).terms (form_placed terms f).at w (form_size f)
+pub record IsFormPut (placing : Placing) (terms : List Term) (f : Form) (w : ℕ) : Type 0 where
+  pub can : CanPlace placing terms f
+  pub put_is : IsPut terms (placed_by placing terms f).terms (placed_by placing terms f).at w (form_size f)
   pub wide : IsWidth w

@@ -3,9 +3,16 @@
 //!
 //! Proved, as laws over the definitions: a form stands with its value under all lawful values;
 //! required forms hold exactly where their terms are 1; a form that fits can be placed within its
-//! size; numbers for the choices give lawful values. There is no code yet that places forms.
+//! size; numbers for the choices give lawful values. The same holds of claims, which are forms whose
+//! operators are folded where their operands are constants. The code that places forms is the crate
+//! `dt_build`.
 #![tactic(auto)]
 
+mod folded;
 mod laws;
 
-pub use laws::{forms_fit, forms_have_values, numbers_give_values, required_terms_hold};
+pub use folded::Folded;
+pub use laws::{
+    assignments_give_values, claims_fit, claims_have_values, claims_hold, forms_fit,
+    forms_have_values, numbers_give_values, required_terms_hold,
+};

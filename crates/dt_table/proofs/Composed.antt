@@ -15,15 +15,18 @@ use Rattle.dt_request.specs.declared.list.Requests.{Requests}
 use Rattle.dt_terms.specs.declared.term.Term.{Term}
 use Rattle.dt_walk.specs.Meaning.{EnvData, env_of, unbound, rule_holds}
 use Rattle.dt_walk.proofs.Narrow.{same_value}
-use Rattle.dt_forms.specs.Meaning.{Valuation, IsLawful, is_one}
+use Rattle.dt_forms.specs.Meaning.{Valuation, IsLawful, AreValues, is_one}
 use Rattle.dt_table.specs.Expressions.{Named}
-use Rattle.dt_forms.specs.Forms.{Form, form_value, all_required}
+use Rattle.dt_forms.specs.Forms.{Form, Placing, form_value, required_by}
+use Rattle.dt_forms.specs.Folding.{fold}
+use Rattle.dt_forms.specs.Placing.{place}
+use Rattle.dt_forms.proofs.Folding.{fold_gives}
 use Rattle.dt_table.specs.Expressions.{form_of}
 use Rattle.dt_table.specs.declared.out.Out.{Out}
 use Rattle.dt_table.specs.Passing.{walk_placed}
-use Rattle.dt_table.specs.Table.{regs_at, inputs_at, words_at, access_of, first_state, rule_named, context_rules, access_rules, Built, with_forms, contexts_built, access_built, accesses_built, start, built, claim_forms, extra_forms, table}
+use Rattle.dt_table.specs.Table.{regs_at, inputs_at, words_at, access_of, first_state, rule_named, context_rules, access_rules, Built, with_by, with_forms, contexts_built, access_built, accesses_built, start, built, claim_forms, extra_forms, table}
 use Rattle.dt_table.specs.Images.{bits_from}
-use Rattle.dt_forms.proofs.FormValues.{required_before, required_hold, hold_required}
+use Rattle.dt_forms.proofs.FormValues.{GivesValues, place_gives, required_before, all_before, all_hold, all_held}
 use Rattle.dt_forms.specs.Claims.{AreOnes, Hold}
 use Rattle.dt_forms.specs.Forms.{HaveForms}
 use Rattle.dt_table.proofs.Trees.{tree_form, form_means}
@@ -110,13 +113,19 @@ access_forms d r k a ready = rules_form (rule_named (access_scope d) (regs_at d 
 
 -- ---- forms that are required after others
 
+forms_ones_by : (P : Valuation → List Term → Type 0) (placing : Placing) → GivesValues P placing → (v : Valuation) (b : Built) (fs : List Form) → HaveForms fs → P v (with_by placing b fs).terms → AreOnes v (with_by placing b fs).required → AreOnes v b.required × Hold v fs
+forms_ones_by P placing g v b fs f h o =
+    let p = AllByRecursion-split (λ (t : ℕ). is_one (v t) ≡ true) b.required (required_by placing b.terms fs).required o in
+    (p.0, all_hold P placing g v fs b.terms f h p.1)
+
+ones_forms_by : (P : Valuation → List Term → Type 0) (placing : Placing) → GivesValues P placing → (v : Valuation) (b : Built) (fs : List Form) → HaveForms fs → P v (with_by placing b fs).terms → AreOnes v b.required → Hold v fs → AreOnes v (with_by placing b fs).required
+ones_forms_by P placing g v b fs f h o k = AllByRecursion-append (λ (t : ℕ). is_one (v t) ≡ true) b.required (required_by placing b.terms fs).required o (all_held P placing g v fs b.terms f h k)
+
 forms_ones : (v : Valuation) (b : Built) (fs : List Form) → HaveForms fs → IsLawful v (with_forms b fs).terms → AreOnes v (with_forms b fs).required → AreOnes v b.required × Hold v fs
-forms_ones v b fs f h o =
-    let p = AllByRecursion-split (λ (t : ℕ). is_one (v t) ≡ true) b.required (all_required b.terms fs).required o in
-    (p.0, required_hold v fs b.terms f h p.1)
+forms_ones v b fs f h o = forms_ones_by IsLawful place place_gives v b fs f h o
 
 ones_forms : (v : Valuation) (b : Built) (fs : List Form) → HaveForms fs → IsLawful v (with_forms b fs).terms → AreOnes v b.required → Hold v fs → AreOnes v (with_forms b fs).required
-ones_forms v b fs f h o k = AllByRecursion-append (λ (t : ℕ). is_one (v t) ≡ true) b.required (all_required b.terms fs).required o (hold_required v fs b.terms f h k)
+ones_forms v b fs f h o k = ones_forms_by IsLawful place place_gives v b fs f h o k
 
 -- ---- contexts
 
@@ -203,11 +212,11 @@ pub record IsSolved (v : Valuation) (d : ModelData) (r : Requests) : Type 0 wher
   pub accesses : AccessesHold v d r 0 r.accesses
   pub claims : Hold v (claim_forms d r (built d r).outs)
 
-pub table_starts : (v : Valuation) (d : ModelData) (r : Requests) → IsLawful v (table d r).terms → IsLawful v (built d r).terms × IsLawful v (start d r).terms
+pub table_starts : (v : Valuation) (d : ModelData) (r : Requests) → AreValues v (table d r).terms → IsLawful v (built d r).terms × IsLawful v (start d r).terms
 unfolding table
 table_starts v d r h =
     let b = built d r in
-    let h1 : IsLawful v b.terms = required_before v (claim_forms d r b.outs ++ extra_forms d r b.outs) b.terms h in
+    let h1 : IsLawful v b.terms = (all_before AreValues fold fold_gives v (claim_forms d r b.outs ++ extra_forms d r b.outs) b.terms h).lawful in
     (h1, contexts_before v d (length r.contexts) 0 (start d r) (accesses_before v d r r.accesses (contexts_built d (start d r) (length r.contexts) 0) 0 h1))
 
 pub table_placed : (v : Valuation) (d : ModelData) (r : Requests) → IsLawful v (built d r).terms → ArePlaced v d r 0 r.accesses (built d r).outs
@@ -217,23 +226,23 @@ table_placed v d r h =
     let e : (built d r).outs ≡ p.0 = p.1 ∙ ap (λ (l : List (List Out)). l ++ p.0) (contexts_outs d (length r.contexts) 0 (start d r)) in
     subst (λ (l : List (List Out)). ArePlaced v d r 0 r.accesses l) (sym e) p.2
 
-pub table_solved : (v : Valuation) (d : ModelData) (r : Requests) → IsReady d → HaveForms (claim_forms d r (built d r).outs ++ extra_forms d r (built d r).outs) → IsLawful v (table d r).terms → AreOnes v (table d r).required → IsSolved v d r
+pub table_solved : (v : Valuation) (d : ModelData) (r : Requests) → IsReady d → HaveForms (claim_forms d r (built d r).outs ++ extra_forms d r (built d r).outs) → AreValues v (table d r).terms → AreOnes v (table d r).required → IsSolved v d r
 unfolding table
 table_solved v d r ready f h o =
     let b = built d r in
     let c = contexts_built d (start d r) (length r.contexts) 0 in
-    let s = forms_ones v b (claim_forms d r b.outs ++ extra_forms d r b.outs) f h o in
-    let h1 : IsLawful v b.terms = required_before v (claim_forms d r b.outs ++ extra_forms d r b.outs) b.terms h in
+    let s = forms_ones_by AreValues fold fold_gives v b (claim_forms d r b.outs ++ extra_forms d r b.outs) f h o in
+    let h1 : IsLawful v b.terms = (all_before AreValues fold fold_gives v (claim_forms d r b.outs ++ extra_forms d r b.outs) b.terms h).lawful in
     let p = accesses_ones v d r r.accesses c 0 ready h1 s.0 in
     let q = contexts_ones v d (length r.contexts) 0 (start d r) ready (accesses_before v d r r.accesses c 0 h1) p.0 in
     record { contexts = q.1; accesses = p.1; claims = (AllByRecursion-split (λ (g : Form). is_one (form_value v g) ≡ true) (claim_forms d r b.outs) (extra_forms d r b.outs) s.1).0 }
 
-pub solved_table : (v : Valuation) (d : ModelData) (r : Requests) → IsReady d → HaveForms (claim_forms d r (built d r).outs ++ extra_forms d r (built d r).outs) → IsLawful v (table d r).terms → IsSolved v d r → Hold v (extra_forms d r (built d r).outs) → AreOnes v (table d r).required
+pub solved_table : (v : Valuation) (d : ModelData) (r : Requests) → IsReady d → HaveForms (claim_forms d r (built d r).outs ++ extra_forms d r (built d r).outs) → AreValues v (table d r).terms → IsSolved v d r → Hold v (extra_forms d r (built d r).outs) → AreOnes v (table d r).required
 unfolding table
 solved_table v d r ready f h s x =
     let b = built d r in
     let c = contexts_built d (start d r) (length r.contexts) 0 in
-    let h1 : IsLawful v b.terms = required_before v (claim_forms d r b.outs ++ extra_forms d r b.outs) b.terms h in
+    let h1 : IsLawful v b.terms = (all_before AreValues fold fold_gives v (claim_forms d r b.outs ++ extra_forms d r b.outs) b.terms h).lawful in
     let q = ones_contexts v d (length r.contexts) 0 (start d r) ready (accesses_before v d r r.accesses c 0 h1) tt s.contexts in
     let p = ones_accesses v d r r.accesses c 0 ready h1 q s.accesses in
-    ones_forms v b (claim_forms d r b.outs ++ extra_forms d r b.outs) f h p (AllByRecursion-append (λ (g : Form). is_one (form_value v g) ≡ true) (claim_forms d r b.outs) (extra_forms d r b.outs) s.claims x)
+    ones_forms_by AreValues fold fold_gives v b (claim_forms d r b.outs ++ extra_forms d r b.outs) f h p (AllByRecursion-append (λ (g : Form). is_one (form_value v g) ≡ true) (claim_forms d r b.outs) (extra_forms d r b.outs) s.claims x)

@@ -18,11 +18,14 @@ use Rattle.dt_terms.specs.declared.term.Term.TheVariants.{Choice}
 use Rattle.dt_terms.specs.Terms.{is_choice}
 use Rattle.dt_terms.specs.Additions.{node_of}
 use Rattle.dt_forms.specs.Same.{same_term}
+use Rattle.dt_forms.specs.declared.folded.Folded.{Folded}
+use Rattle.dt_forms.specs.declared.folded.Folded.TheVariants.{At, Value, New}
+use Rattle.dt_forms.specs.Folding.{folded, placed_folded, fold}
 use Rattle.dt_forms.specs.Placing.{shared, put, place}
-use Rattle.dt_forms.specs.Forms.{Form, term, number, form1, form2, form3, form_placed, all_required, not_of, both_of}
+use Rattle.dt_forms.specs.Forms.{Form, term, number, form1, form2, form3, Placing, placed_by, form_placed, required_by, all_required, not_of, both_of}
 use Rattle.dt_table.specs.Expressions.{form_of}
 use Rattle.dt_table.specs.Passing.{Access, State, named, with_terms, join, chosen, assign, fork, part, is_cell, passed, noted, walk_placed}
-use Rattle.dt_table.specs.Table.{words_at, access_of, first_state, context_rules, access_rules, Built, with_forms, contexts_built, access_built, accesses_built, start, bit_node, built, claim_forms, extra_forms, table, choices, names_chosen, access_chosen}
+use Rattle.dt_table.specs.Table.{words_at, access_of, first_state, context_rules, access_rules, Built, with_forms, with_claims, contexts_built, access_built, accesses_built, start, bit_node, built, claim_forms, extra_forms, table, choices, names_chosen, access_chosen}
 
 -- the second list is the first, and then nodes
 abbrev pub Extends : List Term → List Term → Type 0
@@ -44,26 +47,47 @@ put_extends terms x e = by_place (position (same_term x) terms)
 place_extends : (terms : List Term) (op : Op) (a b c : ℕ) → Extends terms (place terms op a b c).terms
 place_extends terms op a b c = put_extends terms (node_of terms op a b c) refl
 
+fold_extends : (terms : List Term) (op : Op) (a b c : ℕ) → Extends terms (fold terms op a b c).terms
+fold_extends terms op a b c = by_folded (folded terms op a b c)
+  where
+    by_folded : (f : Folded) → Extends terms (placed_folded terms op a b c f).terms
+    by_folded (At t) = extends_self terms
+    by_folded (Value x) = place_extends terms (Const (record { width = width x.width.0; bits = x.bits })) 0 0 0
+    by_folded New = place_extends terms op a b c
+
+-- a placing only puts nodes behind
+abbrev OnlyExtends : Placing → Type 0
+OnlyExtends placing = (terms : List Term) (op : Op) (a b c : ℕ) → Extends terms (placing terms op a b c).terms
+
+extends_by : (placing : Placing) → OnlyExtends placing → (f : Form) (terms : List Term) → Extends terms (placed_by placing terms f).terms
+extends_by placing ext (term t) terms = extends_self terms
+extends_by placing ext (number w n) terms = place_extends terms (Const (record { width = width w; bits = n })) 0 0 0
+extends_by placing ext (form1 op a) terms =
+    let x = placed_by placing terms a in
+    extends_on terms x.terms (placing x.terms op x.at 0 0).terms (extends_by placing ext a terms) (ext x.terms op x.at 0 0)
+extends_by placing ext (form2 op a b) terms =
+    let x = placed_by placing terms a in
+    let y = placed_by placing x.terms b in
+    let w = placing y.terms op x.at y.at 0 in
+    extends_on terms x.terms w.terms (extends_by placing ext a terms) (extends_on x.terms y.terms w.terms (extends_by placing ext b x.terms) (ext y.terms op x.at y.at 0))
+extends_by placing ext (form3 op a b c) terms =
+    let x = placed_by placing terms a in
+    let y = placed_by placing x.terms b in
+    let z = placed_by placing y.terms c in
+    let w = placing z.terms op x.at y.at z.at in
+    extends_on terms x.terms w.terms (extends_by placing ext a terms) (extends_on x.terms y.terms w.terms (extends_by placing ext b x.terms) (extends_on y.terms z.terms w.terms (extends_by placing ext c y.terms) (ext z.terms op x.at y.at z.at)))
+
 pub form_extends : (f : Form) (terms : List Term) → Extends terms (form_placed terms f).terms
-form_extends (term t) terms = extends_self terms
-form_extends (number w n) terms = place_extends terms (Const (record { width = width w; bits = n })) 0 0 0
-form_extends (form1 op a) terms =
-    let x = form_placed terms a in
-    extends_on terms x.terms (place x.terms op x.at 0 0).terms (form_extends a terms) (place_extends x.terms op x.at 0 0)
-form_extends (form2 op a b) terms =
-    let x = form_placed terms a in
-    let y = form_placed x.terms b in
-    extends_on terms x.terms (place y.terms op x.at y.at 0).terms (form_extends a terms) (extends_on x.terms y.terms (place y.terms op x.at y.at 0).terms (form_extends b x.terms) (place_extends y.terms op x.at y.at 0))
-form_extends (form3 op a b c) terms =
-    let x = form_placed terms a in
-    let y = form_placed x.terms b in
-    let z = form_placed y.terms c in
-    let w = place z.terms op x.at y.at z.at in
-    extends_on terms x.terms w.terms (form_extends a terms) (extends_on x.terms y.terms w.terms (form_extends b x.terms) (extends_on y.terms z.terms w.terms (form_extends c y.terms) (place_extends z.terms op x.at y.at z.at)))
+form_extends f terms = extends_by place place_extends f terms
+
+all_extend : (placing : Placing) → OnlyExtends placing → (fs : List Form) (terms : List Term) → Extends terms (required_by placing terms fs).terms
+all_extend placing ext [] terms = extends_self terms
+all_extend placing ext (f ∷ fs) terms =
+    let x = placed_by placing terms f in
+    extends_on terms x.terms (required_by placing x.terms fs).terms (extends_by placing ext f terms) (all_extend placing ext fs x.terms)
 
 pub required_extends : (fs : List Form) (terms : List Term) → Extends terms (all_required terms fs).terms
-required_extends [] terms = extends_self terms
-required_extends (f ∷ fs) terms = let x = form_placed terms f in extends_on terms x.terms (all_required x.terms fs).terms (form_extends f terms) (required_extends fs x.terms)
+required_extends fs terms = all_extend place place_extends fs terms
 
 join_extends : (s : State) (to taken : ℕ) → Extends s.terms (join s to taken).terms
 join_extends s to taken = form_extends (form2 Or (term (s.come to)) (term taken)) s.terms
@@ -137,9 +161,9 @@ table_extends d r =
     let s = start d r in
     let c = contexts_built d s (length r.contexts) 0 in
     let b = built d r in
-    let t = with_forms b (claim_forms d r b.outs ++ extra_forms d r b.outs) in
+    let t = with_claims b (claim_forms d r b.outs ++ extra_forms d r b.outs) in
     extends_on (choices d r) s.terms t.terms (bit_node 0 ∷ bit_node 1 ∷ [], refl, (refl, (refl, tt)))
-    (extends_on s.terms c.terms t.terms (contexts_extends d (length r.contexts) 0 s) (extends_on c.terms b.terms t.terms (accesses_extends d r r.accesses c 0) (required_extends (claim_forms d r b.outs ++ extra_forms d r b.outs) b.terms)))
+    (extends_on s.terms c.terms t.terms (contexts_extends d (length r.contexts) 0 s) (extends_on c.terms b.terms t.terms (accesses_extends d r r.accesses c 0) (all_extend fold fold_extends (claim_forms d r b.outs ++ extra_forms d r b.outs) b.terms)))
 
 -- ---- choices
 

@@ -15,9 +15,10 @@ use Rattle.dt_request.specs.Lists.{IsDemand, IsLink}
 use Rattle.dt_terms.specs.declared.term.Term.{Term}
 use Rattle.dt_terms.specs.Terms.{AreTerms}
 use Rattle.dt_terms.specs.Problem.{IsTest}
-use Rattle.dt_forms.specs.Forms.{Form, all_required, term}
+use Rattle.dt_forms.specs.Forms.{Form, Placing, required_by, term}
+use Rattle.dt_forms.specs.Placing.{place}
 use Rattle.dt_forms.specs.Sizes.{Grows}
-use Rattle.dt_forms.proofs.Sizes.{grows_none, grows_on, grows_within}
+use Rattle.dt_forms.proofs.Sizes.{Puts, place_can, grows_none, grows_on, grows_within}
 use Rattle.dt_forms.proofs.Fine.{IsSized, AreFine, forms_size, all_stand, tests_on, fine_append, mul_more, term_fine, size_append}
 use Rattle.dt_table.specs.Expressions.{Named, form_of}
 use Rattle.dt_table.specs.declared.out.Out.{Out}
@@ -27,7 +28,7 @@ use Rattle.dt_table.proofs.Every.{every_pair, every_link, every_block, every_kee
 use Rattle.dt_table.specs.Apart.{Sized, pages_at, tables_at}
 use Rattle.dt_table.specs.Demands.{demand_forms}
 use Rattle.dt_table.specs.Links.{link_forms}
-use Rattle.dt_table.specs.Table.{choices, regs_at, inputs_at, words_at, access_of, first_state, rule_named, context_rules, access_rules, Built, with_forms, contexts_built, access_built, accesses_built, wish_forms, page_forms, keep_forms, list_forms, claim_forms, list_access}
+use Rattle.dt_table.specs.Table.{choices, regs_at, inputs_at, words_at, access_of, first_state, rule_named, context_rules, access_rules, Built, with_by, with_forms, contexts_built, access_built, accesses_built, wish_forms, page_forms, keep_forms, list_forms, claim_forms, list_access}
 use Rattle.dt_reach.specs.declared.ways.Ways.{Ways}
 use Rattle.dt_ways.specs.Ways.{access_ways}
 use Rattle.dt_reach.specs.Reach.{is_live, none_pass}
@@ -74,10 +75,10 @@ pub record IsOnward (d : ModelData) (r : Requests) (b c : Built) (k : ℕ) : Typ
   pub grows : Grows b.terms c.terms k
   pub built_is : IsBuilt d r c
 
-pub forms_onward : (d : ModelData) (r : Requests) (b : Built) (fs : List Form) (k : ℕ) → IsBuilt d r b → AreFine b.terms fs → forms_size fs ≤ k → IsOnward d r b (with_forms b fs) k
-forms_onward d r b fs k h f l =
-    let q = all_required b.terms fs in
-    let s = all_stand fs b.terms h.terms_are f in
+pub onward_by : (placing : Placing) → Puts placing → (d : ModelData) (r : Requests) (b : Built) (fs : List Form) (k : ℕ) → IsBuilt d r b → AreFine b.terms fs → forms_size fs ≤ k → IsOnward d r b (with_by placing b fs) k
+onward_by placing puts d r b fs k h f l =
+    let q = required_by placing b.terms fs in
+    let s = all_stand placing puts fs b.terms h.terms_are f in
     let g = grows_within b.terms q.terms (forms_size fs) k l s.grows in
     record {
       grows = g;
@@ -87,6 +88,9 @@ forms_onward d r b fs k h f l =
         tests = AllByRecursion-append (IsTest q.terms) b.required q.required (tests_on b.terms q.terms k b.required g h.tests) s.tests;
       };
     }
+
+pub forms_onward : (d : ModelData) (r : Requests) (b : Built) (fs : List Form) (k : ℕ) → IsBuilt d r b → AreFine b.terms fs → forms_size fs ≤ k → IsOnward d r b (with_forms b fs) k
+forms_onward d r b fs k h f l = onward_by place place_can d r b fs k h f l
 
 -- ---- contexts
 

@@ -16,14 +16,16 @@ use Rattle.dt_terms.specs.Problem.{IsTest}
 use Rattle.dt_forms.proofs.Sizes.{grows_on}
 use Rattle.dt_forms.proofs.Fine.{forms_size, size_append, fine_append}
 use Rattle.dt_table.specs.declared.out.Out.{Out}
-use Rattle.dt_table.specs.Table.{align_of, access_of, with_forms, contexts_built, start, built, claim_forms, extra_forms, table}
+use Rattle.dt_forms.specs.Folding.{fold}
+use Rattle.dt_forms.proofs.Folding.{fold_can}
+use Rattle.dt_table.specs.Table.{align_of, access_of, with_claims, contexts_built, start, built, claim_forms, extra_forms, table}
 use Rattle.dt_table.proofs.Accepted.{ready_from}
 use Rattle.dt_table.proofs.Composed.{contexts_outs}
 use Rattle.dt_table.proofs.Ranges.{within_all}
 use Rattle.dt_table.proofs.FineChoices.{start_chosen, start_terms}
 use Rattle.dt_table.proofs.FineWalks.{IsPlain}
 use Rattle.dt_table.proofs.FineClaims.{AreOutsSized, names_wide}
-use Rattle.dt_table.proofs.FineLists.{rules_size, IsModel, IsAsked, IsBuilt, access_size, contexts_onward, accesses_onward, forms_onward, claims_fine, extras_fine, extras_size}
+use Rattle.dt_table.proofs.FineLists.{rules_size, IsModel, IsAsked, IsBuilt, access_size, contexts_onward, accesses_onward, onward_by, claims_fine, extras_fine, extras_size}
 
 -- ---- what an accepted model gives
 
@@ -109,8 +111,8 @@ table_whole d r a h list =
     let claims = claim_forms d r b.outs ++ extra_forms d r b.outs in
     let f = fine_append b.terms (claim_forms d r b.outs) (extra_forms d r b.outs) (claims_fine d r b.terms b.outs model asked y.onward.built_is.chosen y.outs n) (extras_fine d r b.terms 0 b.outs y.outs) in
     let size : forms_size claims ≤ forms_size (claim_forms d r b.outs) = (let e = size_append (claim_forms d r b.outs) (extra_forms d r b.outs) in let x = extras_size d r 0 b.outs in omega (arith, e, x)) in
-    let z = forms_onward d r b claims (forms_size (claim_forms d r b.outs)) y.onward.built_is f size in
-    let g = grows_on s.terms b.terms (with_forms b claims).terms (base_size d r) (forms_size (claim_forms d r b.outs)) (grows_on s.terms c.terms b.terms (length r.contexts * rules_size d.legal_context) (length r.accesses * access_size d) x.grows y.onward.grows) z.grows in
+    let z = onward_by fold fold_can d r b claims (forms_size (claim_forms d r b.outs)) y.onward.built_is f size in
+    let g = grows_on s.terms b.terms (with_claims b claims).terms (base_size d r) (forms_size (claim_forms d r b.outs)) (grows_on s.terms c.terms b.terms (length r.contexts * rules_size d.legal_context) (length r.accesses * access_size d) x.grows y.onward.grows) z.grows in
     record {
       terms_are = z.built_is.terms_are;
       tests = z.built_is.tests;

@@ -1,5 +1,5 @@
 -- Values that solve the problem of a list tell an image that satisfies the list.
-use Rattle.std.proofs.Common.{◌≡◌, ℕ, zero, suc, ◌+◌, ◌<◌, ◌≤◌, ◌^◌, true, List, [], ◌∷◌, ◌++◌, length, map, refl, sym, ap, subst, arith}
+use Rattle.std.proofs.Common.{◌≡◌, ℕ, zero, suc, ◌+◌, ◌<◌, ◌≤◌, true, List, [], ◌∷◌, ◌++◌, length, map, refl, sym, ap, subst, arith}
 use Rattle.std.specs.Prelude.{IsTrue}
 use Rattle.std.specs.List.{flat_map, AllByRecursion}
 use Rattle.std.proofs.lemmas.List.Elements.{recursion_from_All, All-from_recursion}
@@ -14,7 +14,7 @@ use Rattle.dt_request.specs.Lists.{IsDemand, IsWish, IsLink, IsKept, IsList}
 use Rattle.dt_image.specs.declared.image.ImageAccess.{ImageAccess}
 use Rattle.dt_satisfy.specs.Claims.{context_claims, access_claims, demand_claims, link_claims, apart_claim, kept_claims, claims}
 use Rattle.dt_satisfy.specs.Satisfies.{Satisfies}
-use Rattle.dt_forms.specs.Meaning.{Valuation, IsLawful, is_one}
+use Rattle.dt_forms.specs.Meaning.{Valuation, AreValues, is_one}
 use Rattle.dt_forms.specs.Forms.{Form, form_value}
 use Rattle.dt_forms.specs.Claims.{AreOnes, Hold}
 use Rattle.dt_forms.proofs.Tells.{TellAll, one_more_tells, many_tell}
@@ -108,10 +108,10 @@ pub record AreGiven (v : Valuation) (d : ModelData) (r : Requests) : Type 0 wher
   pub placed : ArePlaced v d r 0 r.accesses (built d r).outs
   pub nodes : AllNodes v d (built d r).outs
 
-pub given_from : (v : Valuation) (d : ModelData) (r : Requests) (m : Memory) → IsReady d → IsList d r → ((t : ℕ) → (v t).bits < 2 ^ (v t).width.0) → IsLawful v (table d r).terms → Fits d r m → AreGiven v d r
-given_from v d r m ready list range h fits =
+pub given_from : (v : Valuation) (d : ModelData) (r : Requests) (m : Memory) → IsReady d → IsList d r → AreValues v (table d r).terms → Fits d r m → AreGiven v d r
+given_from v d r m ready list h fits =
     let starts = table_starts v d r h in
-    let set = set_from v d r range starts.1 in
+    let set = set_from v d r h.ranged starts.1 in
     let wishes = recursion_from_All (IsWish d (length r.contexts)) r.accesses list.accesses in
     let c = contexts_have d r r.accesses wishes in
     let placed = table_placed v d r starts.0 in
@@ -155,12 +155,12 @@ pub record AreSolving (v : Valuation) (d : ModelData) (r : Requests) : Type 0 wh
   pub asked : Hold v (every_list d r (built d r).outs)
   pub walks : AllTold v d r (image_told v d r).memory 0 r.accesses (built d r).outs
 
-pub solving_from : (v : Valuation) (d : ModelData) (r : Requests) → IsReady d → IsList d r → ((t : ℕ) → (v t).bits < 2 ^ (v t).width.0) → IsLawful v (table d r).terms → AreOnes v (table d r).required → AreSolving v d r
-solving_from v d r ready list range h ones =
+pub solving_from : (v : Valuation) (d : ModelData) (r : Requests) → IsReady d → IsList d r → AreValues v (table d r).terms → AreOnes v (table d r).required → AreSolving v d r
+solving_from v d r ready list h ones =
     let oss = (built d r).outs in
     let m = (image_told v d r).memory in
     let fits : Fits d r m = record { bytes = refl; lo = refl; hi = refl } in
-    let g = given_from v d r m ready list range h fits in
+    let g = given_from v d r m ready list h fits in
     let solved = table_solved v d r ready (claims_form d r oss) h ones in
     let reads = reads_among d oss in
     let asked = asked_from v d r g (AllByRecursion-split (λ (f : Form). is_one (form_value v f) ≡ true) (pair_forms (all_reads d r 0 oss)) (list_forms d r oss) solved.claims).1 in
@@ -175,9 +175,9 @@ solving_from v d r ready list range h ones =
       walks = all_remembered v d r m r.accesses oss 0 ready g.set fits g.contexts (omega arith) g.placed (all_listed (reads_told v (steps d) oss) agree);
     }
 
-pub told_satisfies : (v : Valuation) (d : ModelData) (r : Requests) → IsReady d → IsList d r → ((t : ℕ) → (v t).bits < 2 ^ (v t).width.0) → IsLawful v (table d r).terms → AreOnes v (table d r).required → Satisfies d r (image_told v d r)
-told_satisfies v d r ready list range h ones =
-    let all = solving_from v d r ready list range h ones in
+pub told_satisfies : (v : Valuation) (d : ModelData) (r : Requests) → IsReady d → IsList d r → AreValues v (table d r).terms → AreOnes v (table d r).required → Satisfies d r (image_told v d r)
+told_satisfies v d r ready list h ones =
+    let all = solving_from v d r ready list h ones in
     let g = all.given in
     let i = image_told v d r in
     let m = i.memory in

@@ -1,5 +1,5 @@
 -- Values whose choices have the numbers of a satisfying image solve the problem of its list.
-use Rattle.std.proofs.Common.{◌≡◌, ℕ, ◌+◌, ◌*◌, ◌<◌, ◌≤◌, ◌^◌, true, List, [], ◌∷◌, ◌++◌, length, get_or, Some, sym, ap, ◌∙◌, subst, arith}
+use Rattle.std.proofs.Common.{◌≡◌, ℕ, ◌+◌, ◌*◌, ◌≤◌, true, List, [], ◌∷◌, ◌++◌, length, get_or, Some, sym, ap, ◌∙◌, subst, arith}
 use Rattle.std.specs.Prelude.{slice_get, IsTrue}
 use Rattle.std.specs.List.{flat_map, AllByRecursion}
 use Rattle.std.proofs.lemmas.List.Elements.{recursion_from_All}
@@ -16,7 +16,7 @@ use Rattle.dt_image.specs.declared.image.Image.{Image}
 use Rattle.dt_image.specs.declared.image.ImageAccess.{ImageAccess}
 use Rattle.dt_satisfy.specs.Claims.{run_of, context_claims, access_claims, demand_claims, link_claims, apart_claim, kept_claims, claims}
 use Rattle.dt_satisfy.specs.Satisfies.{Satisfies}
-use Rattle.dt_forms.specs.Meaning.{Valuation, IsLawful, is_one}
+use Rattle.dt_forms.specs.Meaning.{Valuation, AreValues, is_one}
 use Rattle.dt_forms.specs.Forms.{Form, form_value}
 use Rattle.dt_table.specs.declared.out.Out.{Out}
 use Rattle.dt_table.specs.Told.{told}
@@ -74,11 +74,11 @@ told_remember v d r m (a ∷ more) (os ∷ oss) k h =
     AllByRecursion-append _ (told v (steps d) os 0).reads (reads_told v (steps d) oss) (subst (λ (q : RunData). Remembers m q.reads) h.0 g) (told_remember v d r m more oss (k + 1) h.1)
 
 -- an image that the values tell, over its memory
-seen_solved : (v : Valuation) (d : ModelData) (r : Requests) (m : Memory) → IsReady d → IsList d r → ((t : ℕ) → (v t).bits < 2 ^ (v t).width.0) → IsLawful v (table d r).terms → Fits d r m
+seen_solved : (v : Valuation) (d : ModelData) (r : Requests) (m : Memory) → IsReady d → IsList d r → AreValues v (table d r).terms → Fits d r m
     → HaveWords v d r (seen v d r m) 0 (accesses_told v d r 0 r.accesses) → AllByRecursion IsTrue (claims d r (seen v d r m)) → AreOnes v (table d r).required
-seen_solved v d r m ready list range h fits words holds =
+seen_solved v d r m ready list h fits words holds =
     let oss = (built d r).outs in
-    let g = given_from v d r m ready list range h fits in
+    let g = given_from v d r m ready list h fits in
     let i = seen v d r m in
     let all = all_said v d r m r.accesses oss 0 ready g.set fits g.contexts (omega arith) g.placed words in
     let p4 = AllByRecursion-split IsTrue (context_claims d i ++ access_claims d i ++ demand_claims d r i ++ link_claims d r i) (apart_claim d i ∷ kept_claims d r i) holds in
@@ -97,8 +97,8 @@ seen_solved v d r m ready list range h fits words holds =
       claims = claimed;
     }) (extras_hold v d r oss (asked_from v d r g own))
 
-pub image_solved : (v : Valuation) (d : ModelData) (r : Requests) (i : Image) → IsReady d → IsList d r → ((t : ℕ) → (v t).bits < 2 ^ (v t).width.0) → IsLawful v (table d r).terms → HaveBits v 0 (numbers_of d i) → Satisfies d r i → AreOnes v (table d r).required
-image_solved v d r i ready list range h bits sat =
+pub image_solved : (v : Valuation) (d : ModelData) (r : Requests) (i : Image) → IsReady d → IsList d r → AreValues v (table d r).terms → HaveBits v 0 (numbers_of d i) → Satisfies d r i → AreOnes v (table d r).required
+image_solved v d r i ready list h bits sat =
     let m = i.memory in
     let p = bits_split v (flat_map (λ regs. regs) i.contexts) (flat_map (access_numbers d i) i.accesses) 0 bits in
     let z0 : 0 ≡ regs_at d 0 = omega arith in
@@ -113,5 +113,5 @@ image_solved v d r i ready list range h bits sat =
     ap (λ (cs : List (List ℕ)). record { memory = m; contexts = cs; accesses = accesses_told v d r 0 r.accesses }) ce
     ∙ ap (λ (l : List ImageAccess). record { memory = m; contexts = i.contexts; accesses = l }) ae.0 in
     let fits : Fits d r m = record { bytes = (let x = sat.image.word in let y = ready.word in omega (arith, x, y)); lo = sat.matches.lo; hi = sat.matches.hi } in
-    seen_solved v d r m ready list range h fits (subst (λ (j : Image). HaveWords v d r j 0 j.accesses) (sym e) ae.1)
+    seen_solved v d r m ready list h fits (subst (λ (j : Image). HaveWords v d r j 0 j.accesses) (sym e) ae.1)
     (subst (λ (j : Image). AllByRecursion IsTrue (claims d r j)) (sym e) (recursion_from_All IsTrue (claims d r i) sat.claims))

@@ -14,7 +14,7 @@ use Rattle.dt_request.specs.Lists.{IsList}
 use Rattle.dt_walk.specs.declared.run.ReadMade.{ReadMade}
 use Rattle.dt_walk.specs.Meaning.{env_of, unbound}
 use Rattle.dt_walk.specs.Walks.{RunData}
-use Rattle.dt_forms.specs.Meaning.{Valuation, IsLawful, is_one}
+use Rattle.dt_forms.specs.Meaning.{Valuation, AreValues, is_one}
 use Rattle.dt_table.specs.declared.out.Out.{Out}
 use Rattle.dt_table.specs.Passing.{Access, State, passed, noted, walk_placed}
 use Rattle.dt_table.specs.Told.{told, told_step, made_if}
@@ -88,11 +88,11 @@ all_places v d r m (a ∷ more) (os ∷ oss) k h =
 
 -- ---- the whole
 
-pub told_memory : (v : Valuation) (d : ModelData) (r : Requests) → IsAccepted d → HaveArities d → IsList d r → ((t : ℕ) → (v t).bits < 2 ^ (v t).width.0) → IsLawful v (table d r).terms → AreOnes v (table d r).required → IsMemory (image_told v d r).memory
-told_memory v d r a arities list range h ones =
+pub told_memory : (v : Valuation) (d : ModelData) (r : Requests) → IsAccepted d → HaveArities d → IsList d r → AreValues v (table d r).terms → AreOnes v (table d r).required → IsMemory (image_told v d r).memory
+told_memory v d r a arities list h ones =
     let ready = ready_from d a arities in
     let starts = table_starts v d r h in
-    let set = set_from v d r range starts.1 in
+    let set = set_from v d r h.ranged starts.1 in
     let oss = (built d r).outs in
     let m = (image_told v d r).memory in
     let reads = reads_told v (steps d) oss in
@@ -105,6 +105,6 @@ told_memory v d r a arities list range h ones =
       order = list.bounds.rising;
       end = omega (arith, most, within);
       rising = sorted_rising (words_read reads) (words_sorted reads);
-      words = words_placed m reads (all_places v d r m r.accesses oss 0 (solving_from v d r ready list range h ones).walks);
+      words = words_placed m reads (all_places v d r m r.accesses oss 0 (solving_from v d r ready list h ones).walks);
       fit = words_all (λ (w : Word). w.value < 2 ^ (8 * (d.word / 8))) reads (subst (λ (n : ℕ). AllByRecursion (λ (q : ReadMade). q.word < 2 ^ n) reads) ready.word (all_fit v d r r.accesses oss 0 set (omega arith) (table_placed v d r starts.0)));
     }

@@ -1,18 +1,16 @@
 -- A solving assignment tells an image that satisfies the list, and the numbers of a satisfying image are a solving assignment.
-use Rattle.std.proofs.Common.{◌≡◌, ℕ, zero, suc, ◌+◌, ◌<◌, ◌≤◌, ◌^◌, Bool, true, cond, eqb, ◌&&◌, List, [], ◌∷◌, ◌++◌, length, take, get_or, ⊎_elim, refl, sym, ap, ◌∙◌, subst, arith, length-append}
+use Rattle.std.proofs.Common.{◌≡◌, ℕ, zero, suc, ◌+◌, ◌<◌, ◌≤◌, Bool, true, cond, eqb, ◌&&◌, List, [], ◌∷◌, ◌++◌, length, take, get_or, refl, sym, ap, ◌∙◌, subst, arith, length-append}
 use Rattle.std.specs.List.{list_all}
-use Rattle.std.proofs.lemmas.Bool.{false≢true, cases_lt, and_parts}
-use Rattle.std.proofs.lemmas.List.{get_or_past}
-use Rattle.std.proofs.lemmas.Nat.{pow_pos}
+use Rattle.std.proofs.lemmas.Bool.{false≢true, and_parts}
 use Rattle.dt_model.specs.ModelData.{ModelData}
 use Rattle.dt_request.specs.declared.list.Requests.{Requests}
 use Rattle.dt_request.specs.Lists.{IsList}
 use Rattle.dt_terms.specs.declared.term.Term.{Term}
 use Rattle.dt_terms.specs.declared.term.Term.TheVariants.{Choice, Node}
-use Rattle.dt_terms.specs.Terms.{AreTerms, term_at, bits_at, is_choice, choice_at}
+use Rattle.dt_terms.specs.Terms.{AreTerms, term_at, is_choice, choice_at}
 use Rattle.dt_terms.specs.Values.{IsAssignment, values_of, value_of_term, solves}
 use Rattle.dt_terms.proofs.Choices.{choices_of-none, choice_at-next}
-use Rattle.dt_terms.proofs.Valued.{values_fit, value_is}
+use Rattle.dt_terms.proofs.Valued.{value_is}
 use Rattle.dt_image.specs.declared.image.Image.{Image}
 use Rattle.dt_satisfy.specs.Satisfies.{Satisfies}
 use Rattle.dt_forms.specs.Meaning.{Valuation}
@@ -20,19 +18,13 @@ use Rattle.dt_table.specs.Table.{table, choices}
 use Rattle.dt_table.specs.Images.{image_told}
 use Rattle.dt_table.specs.Numbers.{numbers_of}
 use Rattle.dt_forms.specs.Claims.{AreOnes}
-use Rattle.dt_forms.proofs.Real.{lawful_values}
+use Rattle.dt_forms.proofs.Real.{assigned_values}
 use Rattle.dt_forms.specs.Meaning.{values}
 use Rattle.dt_table.proofs.Ready.{IsReady}
 use Rattle.dt_table.proofs.Satisfying.{told_satisfies}
 use Rattle.dt_table.proofs.Numbers.{HaveBits}
 use Rattle.dt_table.proofs.Solving.{image_solved}
 use Rattle.dt_table.proofs.Extends.{AreChoices, are_choices, table_extends}
-
-pub values_range : (terms : List Term) (numbers : List ℕ) → AreTerms terms → IsAssignment terms numbers → (t : ℕ) → (values terms numbers t).bits < 2 ^ (values terms numbers t).width.0
-values_range terms numbers h i t = ⊎_elim
-    (λ (l : t < length (values_of terms numbers)). values_fit terms numbers h i t l)
-    (λ (l : length (values_of terms numbers) ≤ t). subst (λ (n : ℕ). n < 2 ^ bits_at terms t) (sym (get_or_past (values_of terms numbers) t 0 l)) (pow_pos (bits_at terms t)))
-    (cases_lt t (length (values_of terms numbers)))
 
 pub ones_of : (terms : List Term) (numbers ts : List ℕ) → list_all (λ t. eqb (get_or (values_of terms numbers) t 0) 1) ts ≡ true → AreOnes (values terms numbers) ts
 ones_of terms numbers [] h = tt
@@ -47,7 +39,7 @@ pub table_satisfies : (d : ModelData) (r : Requests) (numbers : List ℕ) → Is
     → Satisfies d r (image_told (values (table d r).terms numbers) d r)
 table_satisfies d r numbers ready list h i s =
     let terms = (table d r).terms in
-    told_satisfies (values terms numbers) d r ready list (values_range terms numbers h i) (lawful_values terms numbers h) (ones_of terms numbers (table d r).required s)
+    told_satisfies (values terms numbers) d r ready list (assigned_values terms numbers h i) (ones_of terms numbers (table d r).required s)
 
 -- ---- choices have their numbers
 
@@ -93,4 +85,4 @@ image_solves d r i ready list h a n sat =
     let numbers = numbers_of d i in
     let x = table_extends d r in
     let bits : HaveBits (values terms numbers) 0 numbers = subst (λ (l : List Term). HaveBits (values l numbers) 0 numbers) (sym x.1) (first_bits (choices d r) x.0 numbers (are_choices d r) n) in
-    of_ones terms numbers (table d r).required (image_solved (values terms numbers) d r i ready list (values_range terms numbers h a) (lawful_values terms numbers h) bits sat)
+    of_ones terms numbers (table d r).required (image_solved (values terms numbers) d r i ready list (assigned_values terms numbers h a) bits sat)

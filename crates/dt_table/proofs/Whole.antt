@@ -19,14 +19,14 @@ use Rattle.dt_satisfy.specs.Satisfies.{Satisfies}
 use Rattle.dt_table.specs.Table.{table, choices, names_chosen, access_chosen}
 use Rattle.dt_table.specs.Images.{image_told}
 use Rattle.dt_table.specs.Numbers.{access_numbers, numbers_of}
-use Rattle.dt_forms.proofs.Real.{lawful_values}
+use Rattle.dt_forms.proofs.Real.{assigned_values}
 use Rattle.dt_forms.specs.Meaning.{values}
 use Rattle.dt_table.proofs.Remembered.{Remembers}
 use Rattle.dt_table.proofs.Rising.{walk_rising, rising_remembers}
 use Rattle.dt_table.proofs.Extends.{are_choices, table_extends}
 use Rattle.dt_table.proofs.Assigned.{FitTerms, terms_join, terms_length, contexts_terms, accesses_terms, first_assigned}
 use Rattle.dt_table.proofs.Accepted.{ready_from}
-use Rattle.dt_table.proofs.Theorem.{table_satisfies, image_solves, choice_place, values_range, ones_of}
+use Rattle.dt_table.proofs.Theorem.{table_satisfies, image_solves, choice_place, ones_of}
 use Rattle.dt_table.proofs.TableMemory.{told_memory}
 use Rattle.dt_table.proofs.FineTable.{table_terms}
 use Rattle.dt_table.proofs.FineCount.{table_problem}
@@ -68,7 +68,7 @@ pub to_memory : (d : ModelData) (r : Requests) (numbers : List ℕ) → IsAccept
 to_memory d r numbers a h list i s =
     let terms = (table d r).terms in
     let t = table_terms d r a h list in
-    told_memory (values terms numbers) d r a h list (values_range terms numbers t i) (lawful_values terms numbers t) (ones_of terms numbers (table d r).required s)
+    told_memory (values terms numbers) d r a h list (assigned_values terms numbers t i) (ones_of terms numbers (table d r).required s)
 
 pub solutions_are_images : SolutionsAreImages
 solutions_are_images = to_image

@@ -15,7 +15,9 @@ use Rattle.dt_terms.specs.Problem.{ProblemData}
 use Rattle.dt_bits.specs.declared.op.Op.TheVariants.{Const}
 use Rattle.dt_terms.specs.Additions.{node_of}
 use Rattle.dt_table.specs.Expressions.{Named}
-use Rattle.dt_forms.specs.Forms.{Form, all_required}
+use Rattle.dt_forms.specs.Forms.{Form, Placing, required_by}
+use Rattle.dt_forms.specs.Folding.{fold}
+use Rattle.dt_forms.specs.Placing.{place}
 use Rattle.dt_table.specs.Expressions.{form_of}
 use Rattle.dt_table.specs.declared.out.Out.{Out}
 use Rattle.dt_table.specs.Passing.{Access, State, walk_placed}
@@ -89,10 +91,18 @@ pub record Built : Type 0 where
   pub required : List ℕ
   pub outs : List (List Out)
 
-abbrev pub with_forms : Built → List Form → Built
-with_forms b fs =
-    let q = all_required b.terms fs in
+-- with these forms too, put behind the terms in turn and required
+abbrev pub with_by : Placing → Built → List Form → Built
+with_by placing b fs =
+    let q = required_by placing b.terms fs in
     record { terms = q.terms; required = b.required ++ q.required; outs = b.outs }
+
+abbrev pub with_forms : Built → List Form → Built
+with_forms b fs = with_by place b fs
+
+-- the same, with constant operands folded
+abbrev pub with_claims : Built → List Form → Built
+with_claims b fs = with_by fold b fs
 
 abbrev pub contexts_built : ModelData → Built → ℕ → ℕ → Built
 contexts_built d b zero c = b
@@ -152,5 +162,5 @@ built d r = accesses_built d r (contexts_built d (start d r) (length r.contexts)
 unfoldable pub table : ModelData → Requests → ProblemData
 table d r =
     let b = built d r in
-    let c = with_forms b (claim_forms d r b.outs ++ extra_forms d r b.outs) in
+    let c = with_claims b (claim_forms d r b.outs ++ extra_forms d r b.outs) in
     record { terms = c.terms; required = c.required }

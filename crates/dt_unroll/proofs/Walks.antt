@@ -14,7 +14,9 @@ use Rattle.dt_terms.specs.Problem.{ProblemData}
 use Rattle.dt_forms.specs.Forms.{Form, form_placed, all_required}
 use Rattle.dt_table.specs.declared.out.Out.{Out}
 use Rattle.dt_table.specs.Passing.{Access, State, Walked, noted, passed, walk_placed}
+use Rattle.dt_forms.specs.Placing.{place}
 use Rattle.dt_build.specs.Building.{placed_in, demanded}
+use Rattle.dt_build.proofs.Demanded.{demanded_none}
 
 -- ---- walks
 
@@ -67,9 +69,6 @@ demanded_more p q f fs e =
     ap (λ (z : ProblemData). demanded z fs) e
     ∙ ap (λ (rs : List ℕ). let z : ProblemData = record { terms = r.terms; required = rs } in z) (append_assoc p.required (x.at ∷ []) r.required)
 
-pub demanded_none : (p : ProblemData) → demanded p [] ≡ p
-demanded_none p = ap (λ (rs : List ℕ). let z : ProblemData = record { terms = p.terms; required = rs } in z) (append-nil p.required)
-
 pub demanded_at : {X : Type 0} (f : X → Form) (xs : List X) (i : ℕ) (x : X) (p q w : ProblemData) → i < length xs → x ≡ get_or xs i x
     → q ≡ with_required (placed_in p (form_placed p.terms (f x))) (form_placed p.terms (f x)).at → demanded p (map f (drop i xs)) ≡ w → demanded q (map f (drop (i + 1) xs)) ≡ w
 demanded_at f xs i x p q w l e g h =
@@ -78,4 +77,4 @@ demanded_at f xs i x p q w l e g h =
     ∙ h
 
 pub demanded_all : {X : Type 0} (f : X → Form) (xs : List X) (i : ℕ) (p w : ProblemData) → length xs ≤ i → demanded p (map f (drop i xs)) ≡ w → p ≡ w
-demanded_all f xs i p w l h = sym (demanded_none p) ∙ sym (ap (λ ys. demanded p (map f ys)) (drop_all i xs l)) ∙ h
+demanded_all f xs i p w l h = sym (demanded_none place p) ∙ sym (ap (λ ys. demanded p (map f ys)) (drop_all i xs l)) ∙ h

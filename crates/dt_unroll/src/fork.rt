@@ -27,9 +27,9 @@ pub fn fork(builder: &mut Builder, come: u32, test: u32) -> Result<Edges, NoMemo
     ensures terms { OnOk result (builder.new.terms ≡ (fork builder.old.terms come test).terms) }
     ensures required { OnOk result (builder.new.required ≡ builder.old.required) }
 {
-    let by_then = builder.both(come, test)?;
-    let not = builder.not(test)?;
-    let by_other = builder.both(come, not)?;
+    let by_then = builder.place(Op::And, come, test, 0)?;
+    let not = builder.place(Op::Not, test, 0, 0)?;
+    let by_other = builder.place(Op::And, come, not, 0)?;
     Ok(Edges { by_then, by_other })
 }
 

@@ -51,7 +51,7 @@ fn aligned(builder: &mut Builder, frame: &Frame, cell: u32) -> Result<u32, NoMem
     };
     let part = builder.place(low, cell, 0, 0)?;
     let none = builder.number(Width(align), 0)?;
-    builder.same(part, none)
+    builder.place(Op::Eq, part, none, 0)
 }
 
 // Where a cell is at the lower bound or above.
@@ -64,8 +64,8 @@ fn above(builder: &mut Builder, frame: &Frame, cell: u32) -> Result<u32, NoMemor
         return Ok(frame.zero);
     }
     let bound = builder.number(Width(frame.address), frame.lo)?;
-    let less = builder.less(cell, bound)?;
-    builder.not(less)
+    let less = builder.place(Op::Ltu, cell, bound, 0)?;
+    builder.place(Op::Not, less, 0, 0)
 }
 
 // Where a cell is below the upper bound.
@@ -78,7 +78,7 @@ fn below(builder: &mut Builder, frame: &Frame, cell: u32) -> Result<u32, NoMemor
         return Ok(frame.one);
     }
     let bound = builder.number(Width(frame.address), frame.hi)?;
-    builder.less(cell, bound)
+    builder.place(Op::Ltu, cell, bound, 0)
 }
 
 /// Where there is a word of table memory at a cell.
@@ -90,6 +90,6 @@ pub fn is_cell(builder: &mut Builder, frame: &Frame, cell: u32) -> Result<u32, N
     let whole = aligned(builder, frame, cell)?;
     let from = above(builder, frame, cell)?;
     let to = below(builder, frame, cell)?;
-    let within = builder.both(from, to)?;
-    builder.both(whole, within)
+    let within = builder.place(Op::And, from, to, 0)?;
+    builder.place(Op::And, whole, within, 0)
 }

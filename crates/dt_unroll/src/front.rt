@@ -49,7 +49,7 @@ impl Front {
         requires { node < length self.old.come.items }
         ensures { OnOk result (Goes (λ s. noted s node) builder.old self.old builder.new self.new) }
     {
-        self.away = builder.not(self.come[node])?;
+        self.away = builder.place(Op::Not, self.come[node], 0, 0)?;
         Ok(())
     }
 

@@ -2,7 +2,7 @@ use Rattle.std.proofs.Common.{◌∙◌, List, map}
 use Rattle.std.specs.List.{flat_map}
 use Rattle.std.proofs.lemmas.Result.{on_ok_weaker}
 use Rattle.dt_model.specs.ModelData.{data_of}
-use Rattle.dt_build.specs.Building.{demanded}
+use Rattle.dt_build.specs.Building.{claimed}
 use Rattle.dt_table.specs.Kept.{kept_forms}
 use Rattle.dt_table.specs.Pairs.{apart_forms}
 use Rattle.dt_table.specs.Table.{page_forms, keep_forms}
@@ -22,6 +22,6 @@ returns c =
     let kept_tables = (λ i. map spot (c.as_slice-4.ensures.value i)) ∙ c.in_ok-tables.ensures in
     on_ok_weaker c.require_ranges_kept.result
     (λ h. both_required c.args.builder.now c.require_pages_apart.new.builder c.require_ranges_kept.new.builder (page_forms d r rows) (keep_forms d r rows)
-    (c.in_ok-require_pages_apart.ensures ∙ (λ i. demanded c.args.builder.now (apart_forms (access_of (c.requires i)) (pages i) (tables i))))
-    (h ∙ (λ i. demanded c.require_pages_apart.new.builder (flat_map (kept_forms (access_of (c.requires i)) (kept_pages i) (kept_tables i)) (c.as_slice-kept.ensures i)))))
+    (c.in_ok-require_pages_apart.ensures ∙ (λ i. claimed c.args.builder.now (apart_forms (access_of (c.requires i)) (pages i) (tables i))))
+    (h ∙ (λ i. claimed c.require_pages_apart.new.builder (flat_map (kept_forms (access_of (c.requires i)) (kept_pages i) (kept_tables i)) (c.as_slice-kept.ensures i)))))
     c.require_ranges_kept.ensures

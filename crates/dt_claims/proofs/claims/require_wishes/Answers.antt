@@ -1,7 +1,7 @@
 use Rattle.std.proofs.Common.{List, ◌+◌, drop, ap, ◌∙◌}
 use Rattle.std.specs.List.{flat_map}
 use Rattle.dt_model.specs.ModelData.{data_of}
-use Rattle.dt_build.specs.Building.{demanded}
+use Rattle.dt_build.specs.Building.{claimed}
 use Rattle.dt_forms.specs.Forms.{Form}
 use Rattle.dt_table.specs.Demands.{demand_forms}
 use Rattle.dt_table.specs.Table.{wish_forms, access_of as table_access}
@@ -23,6 +23,6 @@ loop-k-preserved c =
     on c.loop-k.builder c.require_demands.new.builder _ (flat_map (demand_forms d (table_access d r k a) row.items) a.demands) (wish_forms d r (k + 1) (drop (k + 1) wishes) (rows_of (drop (k + 1) rows))) (wish_forms d r k (drop k wishes) (rows_of (drop k rows)))
     (wishes_here d r wishes rows k a row c.loop-k-test.true c.index-accesses-k.is found.3.0 found.1)
     (c.in_ok-require_demands.ensures
-    ∙ (λ i. demanded c.loop-k.builder (flat_map (demand_forms d (access_of (c.in_ok-places.ensures i)) (c.as_slice.ensures.value i)) (c.as_slice-demands.ensures i)))
-    ∙ ap (λ (fs : List Form). demanded c.loop-k.builder fs) (same_demands d r k a row.items a.demands))
+    ∙ (λ i. claimed c.loop-k.builder (flat_map (demand_forms d (access_of (c.in_ok-places.ensures i)) (c.as_slice.ensures.value i)) (c.as_slice-demands.ensures i)))
+    ∙ ap (λ (fs : List Form). claimed c.loop-k.builder fs) (same_demands d r k a row.items a.demands))
     c.loop-k.invariant

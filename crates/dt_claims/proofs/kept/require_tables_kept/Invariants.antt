@@ -1,10 +1,10 @@
 use Rattle.std.proofs.Common.{◌≡◌, drop, map}
 use Rattle.std.specs.List.{flat_map}
-use Rattle.dt_build.specs.Building.{demanded}
+use Rattle.dt_build.specs.Building.{claimed}
 use Rattle.dt_table.specs.Kept.{kept_form}
 use Rattle.dt_table.specs.Spots.{only_if}
 use Rattle.dt_claims.specs.Views.{sized, spot, access_of}
 use Rattle.dt_claims.proofs.kept.require_tables_kept.Given as goal
 
 abbrev pub invariant-loop-table : goal.invariant-loop-table
-invariant-loop-table l = demanded l.builder (flat_map (λ x. only_if x.live (kept_form (access_of l.places) l.kept (λ o. o.by_then) x.of)) (map spot (drop l.table-index l.tables))) ≡ demanded l.initial.builder (flat_map (λ x. only_if x.live (kept_form (access_of l.places) l.kept (λ o. o.by_then) x.of)) (map spot l.tables))
+invariant-loop-table l = claimed l.builder (flat_map (λ x. only_if x.live (kept_form (access_of l.places) l.kept (λ o. o.by_then) x.of)) (map spot (drop l.table-index l.tables))) ≡ claimed l.initial.builder (flat_map (λ x. only_if x.live (kept_form (access_of l.places) l.kept (λ o. o.by_then) x.of)) (map spot l.tables))
