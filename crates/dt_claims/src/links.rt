@@ -142,7 +142,7 @@ fn require_one_page(
         return builder.require(never);
     }
     let same = same_block(builder, places, x.exponent, x.out.value, y.out.value)?;
-    let whole = builder.place(Op::Or, never, same, 0)?;
+    let whole = builder.fold(Op::Or, never, same, 0)?;
     builder.require(whole)
 }
 

@@ -19,7 +19,7 @@ fn require_pair(builder: &mut Builder, a: Out, b: Out) -> Result<(), NoMemory>
     let both = builder.both(made, cell)?;
     let apart = builder.not(both)?;
     let word = builder.same(a.word, b.word)?;
-    let whole = builder.place(Op::Or, apart, word, 0)?;
+    let whole = builder.fold(Op::Or, apart, word, 0)?;
     builder.require(whole)
 }
 
