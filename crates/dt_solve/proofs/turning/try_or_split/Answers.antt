@@ -78,8 +78,8 @@ bit_to_split-split-requires-clause-unknown g c =
     let held = c.try_numbers.ensures.held in
     not_known D ops p g.met.D.Domain.laws problem g.met.D.Deciding.decides cells numbers h.cells_are c.requires.settled h.required c.try_numbers.ensures.assignment held f
 
-pub returns-in_ok-split_tree-clause-turned : goal.returns-in_ok-split_tree-clause-turned
-returns-in_ok-split_tree-clause-turned g c =
+pub returns-clause-turned : goal.returns-clause-turned
+returns-clause-turned g c =
     let D = g.row.D.Denot in
     let ops = g.D.Domain.ops in
     let p = c.args.problem.now in
