@@ -4,7 +4,7 @@ use crate::known::{Known, down, low, up};
 use dt_bits::Op;
 
 /// What is asked of each operand.
-#[derive(Clone, Copy, Debug)]
+#[derive(Clone, Copy)]
 pub struct Asked {
     pub a: Known,
     pub b: Known,
@@ -12,7 +12,7 @@ pub struct Asked {
 }
 
 /// How what is left open is chosen: not at all, or by these random bits.
-#[derive(Clone, Copy, Debug)]
+#[derive(Clone, Copy)]
 pub enum Choosing {
     Never,
     By(u128),

@@ -5,7 +5,7 @@ use rand_pcg::Pcg64;
 use std::marker::Model;
 
 /// A stream of numbers that a seed fixes.
-#[derive(Debug, Drop)]
+#[derive(Drop)]
 pub struct Draws {
     generator: Pcg64,
 }

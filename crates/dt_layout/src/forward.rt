@@ -3,7 +3,7 @@ use crate::known::{Known, down, low, up};
 use dt_bits::Op;
 
 /// An operand: its width, and what is known of it.
-#[derive(Clone, Copy, Debug)]
+#[derive(Clone, Copy)]
 pub struct Operand {
     pub width: u32,
     pub known: Known,

@@ -4,7 +4,7 @@ ghost use Rattle.std.specs.Prelude.{◌<◌};
 use dt_bits::low_ones;
 
 /// What is known of a number: the bits of the mask, which have these values.
-#[derive(Clone, Copy, Debug, PartialEq, Eq)]
+#[derive(Clone, Copy)]
 pub struct Known {
     pub mask: u128,
     pub bits: u128,

@@ -35,11 +35,16 @@ const ROUNDS: u32 = 4;
 const TRIES: u32 = 60;
 
 // Where a walk goes from a node.
-#[derive(Clone, Copy, Debug)]
+#[derive(Clone, Copy)]
 enum Walked {
     On(usize),
     Ended,
     Stuck,
+}
+
+// A number as a position.
+fn position(i: usize) -> u32 {
+    u32::try_from(i).unwrap_or(u32::MAX)
 }
 
 fn push_widths(
@@ -206,13 +211,13 @@ impl<'a> Layout<'a> {
         for i in 0..self.program.regs {
             let slot = regs.saturating_add(i);
             let all = self.width(slot);
-            self.ask_slot(access, Quantity::Reg(i as u32), all, slot);
+            self.ask_slot(access, Quantity::Reg(position(i)), all, slot);
         }
         let inputs = self.inputs_at(access);
         for i in 0..self.program.inputs {
             let slot = inputs.saturating_add(i);
             let all = self.width(slot);
-            self.ask_slot(access, Quantity::Input(i as u32), all, slot);
+            self.ask_slot(access, Quantity::Input(position(i)), all, slot);
         }
     }
 
@@ -438,8 +443,8 @@ impl<'a> Layout<'a> {
                 other,
             } => {
                 let me = Side {
-                    access: (access % 4_294_967_296) as u32,
-                    node: (at % 4_294_967_296) as u32,
+                    access: position(access),
+                    node: position(at),
                 };
                 let way = self.routes.way(at);
                 let is_made = way.by_then && (!way.by_other || self.toss());
@@ -463,7 +468,8 @@ impl<'a> Layout<'a> {
 
     // Lays out one access. False where that wasn't found.
     fn place(&mut self, access: usize) -> bool {
-        self.solver.begin(self.regs_at(access), self.inputs_at(access));
+        let (regs, inputs) = (self.regs_at(access), self.inputs_at(access));
+        self.solver.begin(regs, inputs);
         self.ask_rules();
         self.ask_names(access);
         let mut at = 0;

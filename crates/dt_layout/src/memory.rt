@@ -38,7 +38,7 @@ impl Block {
 }
 
 /// What is laid out. Positions of choices come first among the slots, then the words.
-#[derive(Debug, Drop)]
+#[derive(Drop)]
 pub struct Memory {
     pub slots: Vec<Known>,
     /// Where the words lie.

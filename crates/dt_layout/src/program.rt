@@ -5,7 +5,7 @@ use dt_model::{Accepted, Act, Expr, Named, Names, word_bytes};
 use std::alloc::Global;
 
 /// What a part is.
-#[derive(Clone, Copy, Debug)]
+#[derive(Clone, Copy)]
 pub enum Kind {
     Number(u128),
     Reg(u32),
@@ -15,7 +15,7 @@ pub enum Kind {
 }
 
 /// A part of an expression: its width, where its operands stand, and where its own first part does.
-#[derive(Clone, Copy, Debug)]
+#[derive(Clone, Copy)]
 pub struct Part {
     pub kind: Kind,
     pub width: u32,
@@ -27,7 +27,7 @@ pub struct Part {
 
 /// A node, whose expressions stand as the positions of their last parts. A read has its place among
 /// the reads.
-#[derive(Clone, Copy, Debug)]
+#[derive(Clone, Copy)]
 pub enum Step {
     Let {
         var: u32,
@@ -57,7 +57,7 @@ pub enum Step {
 }
 
 /// A model that is laid out for placing.
-#[derive(Debug, Drop)]
+#[derive(Drop)]
 pub struct Program {
     pub parts: Vec<Part>,
     pub steps: Vec<Step>,

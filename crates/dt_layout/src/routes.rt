@@ -5,7 +5,7 @@ use dt_request::{Demand, Link, Quantity, Requests, Side};
 use std::alloc::Global;
 
 /// Where a walk may go at a node.
-#[derive(Clone, Copy, Debug)]
+#[derive(Clone, Copy)]
 pub struct Way {
     // It must be visited, or must not.
     needed: bool,
@@ -31,7 +31,7 @@ const FREE: Way = Way {
 };
 
 /// How a walk may end.
-#[derive(Clone, Copy, Debug)]
+#[derive(Clone, Copy)]
 struct Ends {
     result: bool,
     fault: bool,
@@ -40,7 +40,7 @@ struct Ends {
 }
 
 /// Where the walk of an access may go.
-#[derive(Debug, Drop)]
+#[derive(Drop)]
 pub struct Routes {
     ways: Vec<Way>,
     ends: Ends,

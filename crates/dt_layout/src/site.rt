@@ -12,7 +12,7 @@ const AT_RANDOM: u32 = 64;
 
 /// What is asked of an address: the bits that addresses have, what is known of it, and the exponent
 /// of its block.
-#[derive(Clone, Copy, Debug)]
+#[derive(Clone, Copy)]
 pub struct Spot {
     pub addresses: u128,
     pub known: Known,
@@ -110,16 +110,17 @@ fn random_table(
     None
 }
 
-// One of the tables, from a random one on.
+// One of the tables, by random bits.
 fn shared_table(memory: &Memory, spot: Spot, dice: u128) -> Option<Block> {
-    let count = memory.tables.iter().take_while(|table| table.is_some()).count();
     let mut found = None;
-    for k in 0..count {
-        let turn = between(0, count as u128, dice).wrapping_add(k as u128) % 4_294_967_296;
-        let at = if count == 0 { 0 } else { turn as usize % count };
-        if let Some(Some(table)) = memory.tables.get(at) {
-            if found.is_none() && table.exponent == spot.exponent && spot.admits(*table) {
-                found = Some(*table);
+    let mut dice = dice;
+    for table in memory.tables.iter() {
+        if let Some(table) = table {
+            if table.exponent == spot.exponent && spot.admits(*table) {
+                if found.is_none() || dice & 1 == 1 {
+                    found = Some(*table);
+                }
+                dice = dice.rotate_right(1);
             }
         }
     }

@@ -9,7 +9,7 @@ use std::alloc::Global;
 
 /// What a variable has: nothing yet, the word in a slot, or an expression of which so much was known
 /// when it was last looked at.
-#[derive(Clone, Copy, Debug)]
+#[derive(Clone, Copy)]
 pub enum Bound {
     Nothing,
     Word(usize),
@@ -17,7 +17,7 @@ pub enum Bound {
 }
 
 /// An expression, by its last part, and what is asked of it.
-#[derive(Clone, Copy, Debug)]
+#[derive(Clone, Copy)]
 struct Goal {
     root: usize,
     want: Known,
@@ -25,7 +25,7 @@ struct Goal {
 }
 
 /// What is asked in the walk of one access.
-#[derive(Debug, Drop)]
+#[derive(Drop)]
 pub struct Solver {
     goals: Vec<Option<Goal>>,
     count: usize,
