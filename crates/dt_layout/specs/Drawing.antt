@@ -14,7 +14,7 @@ after_word g = (pcg64 g).1
 
 -- the number of so many bits that is drawn next: of the next two words the first is the lower
 abbrev pub drawn : Lcg → ℕ → ℕ
-drawn g width = ((pcg64 g).0 + 2 ^ 64 * (pcg64 (after_word g)).0) % 2 ^ width
+drawn g width = ((pcg64 g).0 + (pcg64 (after_word g)).0 * 2 ^ 64) % 2 ^ width
 
 -- the generator after a number was drawn
 abbrev pub after_draw : Lcg → Lcg
