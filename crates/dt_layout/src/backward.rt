@@ -191,10 +191,7 @@ fn of_order(below: bool, a: Operand, b: Operand, choosing: Choosing) -> Asked {
             let all = low(a.width);
             let (first, second) = if below { (0, all) } else { (all, 0) };
             if a.known.covers(all) {
-                of_two(
-                    Known::nothing(),
-                    Known::of(all, b.known.filled(second)),
-                )
+                of_two(Known::nothing(), Known::of(all, b.known.filled(second)))
             } else {
                 of_one(Known::of(all, a.known.filled(first)))
             }
@@ -262,10 +259,7 @@ pub fn backward(
         ),
         Op::SignExt { .. } => of_one(of_extension(want, a)),
         Op::Shl { by } => of_one(Known::of(down(want.mask, by), down(want.bits, by))),
-        Op::Shr { by } => of_one(Known::of(
-            up(want.mask, by) & low(a.width),
-            up(want.bits, by),
-        )),
+        Op::Shr { by } => of_one(Known::of(up(want.mask, by) & low(a.width), up(want.bits, by))),
         Op::Eq | Op::Ltu => of_test(op, want.bits == 1, a, b, choosing),
         Op::Ite => of_choice(want, x, y, c.known, choosing),
     }

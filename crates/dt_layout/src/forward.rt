@@ -81,10 +81,7 @@ pub fn forward(op: Op, width: u32, a: Operand, b: Operand, c: Operand) -> Known 
         Op::Add => of_sum(width, x, y, x.bits.wrapping_add(y.bits)),
         Op::Sub => of_sum(width, x, y, x.bits.wrapping_sub(y.bits)),
         Op::Slice { lo, .. } => Known::of(down(x.mask, lo) & all, down(x.bits, lo)),
-        Op::Concat => Known::of(
-            up(x.mask, b.width) | y.mask,
-            up(x.bits, b.width) | y.bits,
-        ),
+        Op::Concat => Known::of(up(x.mask, b.width) | y.mask, up(x.bits, b.width) | y.bits),
         Op::SignExt { .. } => of_extension(width, a),
         Op::Shl { by } => Known::of((up(x.mask, by) | low(by)) & all, up(x.bits, by)),
         Op::Shr { by } => Known::of(down(x.mask, by) | (all & !down(all, by)), down(x.bits, by)),

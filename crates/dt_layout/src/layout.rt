@@ -129,7 +129,9 @@ impl<'a> Layout<'a> {
 
     // The place of a read of an access among all reads.
     fn read_at(&self, access: usize, place: usize) -> usize {
-        access.saturating_mul(self.program.reads).saturating_add(place)
+        access
+            .saturating_mul(self.program.reads)
+            .saturating_add(place)
     }
 
     // The slot of a word.
@@ -143,7 +145,13 @@ impl<'a> Layout<'a> {
 
     // Asks for the bits of an expression, and chooses until it has them.
     fn force(&mut self, root: usize, want: Known) -> bool {
-        self.solver.force(&self.program, &mut self.memory.slots, root, want, &mut self.draws)
+        self.solver.force(
+            &self.program,
+            &mut self.memory.slots,
+            root,
+            want,
+            &mut self.draws,
+        )
     }
 
     fn known(&mut self, root: usize) -> Known {
@@ -238,7 +246,8 @@ impl<'a> Layout<'a> {
             return None;
         };
         let place = self.program.place(other.node);
-        self.memory.cell_made(self.read_at(other.access as usize, place))
+        self.memory
+            .cell_made(self.read_at(other.access as usize, place))
     }
 
     // The address that a read shares by a link.
@@ -311,7 +320,14 @@ impl<'a> Layout<'a> {
     }
 
     // Puts a word there, which a variable has from now on.
-    fn put_word(&mut self, access: usize, node: u32, var: u32, place: usize, address: u128) -> bool {
+    fn put_word(
+        &mut self,
+        access: usize,
+        node: u32,
+        var: u32,
+        place: usize,
+        address: u128,
+    ) -> bool {
         let word = match self.memory.word(address) {
             Some(word) => word,
             None => return false,
@@ -433,7 +449,11 @@ impl<'a> Layout<'a> {
                 self.solver.bind(var, Bound::Value { root: value, known });
                 Walked::On(next)
             }
-            Step::If { test, then_to, other } => self.branch(at, test, then_to, other),
+            Step::If {
+                test,
+                then_to,
+                other,
+            } => self.branch(at, test, then_to, other),
             Step::Read {
                 var,
                 cell,
@@ -477,12 +497,9 @@ impl<'a> Layout<'a> {
             match self.walk(access, at) {
                 Walked::On(next) => at = next,
                 Walked::Ended => {
-                    return self.solver.meet(
-                        &self.program,
-                        &mut self.memory.slots,
-                        0,
-                        &mut self.draws,
-                    );
+                    return self
+                        .solver
+                        .meet(&self.program, &mut self.memory.slots, 0, &mut self.draws);
                 }
                 Walked::Stuck => return false,
             }

@@ -137,13 +137,7 @@ fn leaf(parts: &mut Vec<Part>, kind: Kind, width: u32) -> Result<usize, NoMemory
 }
 
 // Appends an operator over parts.
-fn apply(
-    parts: &mut Vec<Part>,
-    op: Op,
-    a: usize,
-    b: usize,
-    c: usize,
-) -> Result<usize, NoMemory> {
+fn apply(parts: &mut Vec<Part>, op: Op, a: usize, b: usize, c: usize) -> Result<usize, NoMemory> {
     let part = Part {
         kind: Kind::Apply(op),
         width: result_width(op, width_at(parts, a), width_at(parts, b)),

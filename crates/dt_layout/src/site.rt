@@ -34,7 +34,10 @@ pub fn between(lo: u128, hi: u128, dice: u128) -> u128 {
 
 // Whether the block touches a kept range.
 fn is_kept(requests: &Requests, block: Block) -> bool {
-    requests.kept.iter().any(|kept| block.touches(kept.lo, kept.hi))
+    requests
+        .kept
+        .iter()
+        .any(|kept| block.touches(kept.lo, kept.hi))
 }
 
 impl Spot {
@@ -145,10 +148,7 @@ pub fn table_block(
 
 // Whether a word may lie there.
 fn is_cell(requests: &Requests, bytes: u128, address: u128) -> bool {
-    bytes != 0
-        && address % bytes == 0
-        && requests.lo <= address
-        && address < requests.hi
+    bytes != 0 && address % bytes == 0 && requests.lo <= address && address < requests.hi
 }
 
 /// An address for a word in the block, without a word where there is one.
@@ -179,12 +179,7 @@ pub fn cell_in(
 }
 
 /// An address at which no word can be read.
-pub fn no_cell(
-    requests: &Requests,
-    spot: Spot,
-    bytes: u128,
-    draws: &mut Draws,
-) -> Option<u128> {
+pub fn no_cell(requests: &Requests, spot: Spot, bytes: u128, draws: &mut Draws) -> Option<u128> {
     for _ in 0..AT_RANDOM {
         let address = spot.known.filled(draw(draws)) & spot.addresses;
         if !is_cell(requests, bytes, address) {

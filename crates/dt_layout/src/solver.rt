@@ -1,9 +1,9 @@
 // What the walk of one access asks of registers, inputs and words, and what is chosen to meet it.
+use crate::Draws;
 use crate::backward::{Asked, Choosing, backward};
 use crate::forward::{Operand, forward};
 use crate::known::{Known, low};
 use crate::program::{Kind, Part, Program};
-use crate::Draws;
 use dt_bits::{NoMemory, Width};
 use std::alloc::Global;
 
@@ -267,13 +267,7 @@ impl Solver {
     }
 
     // Looks at a goal, and asks for what it needs. A goal of which all is known is met.
-    fn pursue(
-        &mut self,
-        program: &Program,
-        slots: &mut [Known],
-        at: usize,
-        choosing: Choosing,
-    ) {
+    fn pursue(&mut self, program: &Program, slots: &mut [Known], at: usize, choosing: Choosing) {
         let goal = match self.goal(at) {
             Some(goal) if !goal.met => goal,
             _ => return,

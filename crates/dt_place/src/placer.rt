@@ -48,7 +48,8 @@ impl<'a> Placer<'a> {
         for choice in 0..problem.choice_count() {
             if let Some(term) = problem.choice_term(choice) {
                 let cell = cells.get(term);
-                self.layout.see(choice as usize, cell.known_mask(), cell.known_value());
+                self.layout
+                    .see(choice as usize, cell.known_mask(), cell.known_value());
             }
         }
     }
