@@ -167,6 +167,21 @@ opens t3 no_tables
 begins 'two numbers below each other, with splits' 2 'budget 3' solve t3 no_tables 3 1
 opens t3 no_tables
 
+# Listed numbers show that the exclusive or is 0 or 7; known bits and ranges don't.
+cat >t4 <<'END'
+model 1
+word 64
+address 16
+input p 1
+input q 1
+node s if (eq (xor (ite p 3:0x1 3:0x6) (ite q 3:0x1 3:0x6)) 3:0x3) d f
+node d done 16:0x0 12
+node f fault 1
+end
+END
+begins 'two choices of two numbers, with no split' 1 impossible solve t4 no_tables 0 1
+closes t4 no_tables
+
 cat >wide_list <<'END'
 requests 1
 tables 0x80000000 0x80001000

@@ -16,8 +16,8 @@ use Rattle.dt_satisfy.proofs.Verdicts.{satisfies_all}
 use Rattle.dt_top.specs.Course.{FileRead, Outcome, answers, needs, Answered, OnFile}
 use Rattle.dt_top.specs.Files.{limit_of}
 use Rattle.dt_terms.specs.Problem.{ProblemData}
-use Rattle.dt_pair.specs.declared.Pair.{Pair}
-use Rattle.dt_pair.specs.Ops.{pair_ops}
+use Rattle.dt_sets.specs.declared.Triple.{Triple}
+use Rattle.dt_sets.specs.TripleOps.{triple_ops}
 use Rattle.dt_log.specs.Read.{LogData, reading as log_in}
 use Rattle.dt_log.specs.Shapes.{is_tree}
 use Rattle.dt_check.specs.declared.verdict.Cause.{Cause}
@@ -360,8 +360,8 @@ expected_item words files d list text log a reads k cause h =
 -- a log that neither refutes nor records has an item with a cause
 refused_verdict : (p : ProblemData) (log : LogData) → is_tree log.1 ≡ true → ((n : ℕ) → IsRefutedBy p log n → ⊥) → ((n : ℕ) → IsRecordedBy p log n → ⊥) → (v : Verdict) → v ≡ verdict_on p log
     → (item : ℕ) × (cause : Cause) × IsRefusedItem p log item cause
-refused_verdict p log t nr nn (Closed n) e = absurd (nr n (closed_is Pair pair_ops p log.0 log.1 (Closed n) n t e refl))
-refused_verdict p log t nr nn (Unfinished n) e = absurd (nn n (unfinished_is Pair pair_ops p log.0 log.1 (Unfinished n) n t e refl))
+refused_verdict p log t nr nn (Closed n) e = absurd (nr n (closed_is Triple triple_ops p log.0 log.1 (Closed n) n t e refl))
+refused_verdict p log t nr nn (Unfinished n) e = absurd (nn n (unfinished_is Triple triple_ops p log.0 log.1 (Unfinished n) n t e refl))
 refused_verdict p log t nr nn (Refused item cause) e = (item, cause, sym e)
 
 pub checked_well : (words : List (List ℕ)) (files : Files) (d : ModelData) (list : Requests) (text : List ℕ) (log : LogData) → AskedToCheck words files d list text → log_in text ≡ Ok log

@@ -11,9 +11,9 @@ use Rattle.dt_satisfy.specs.Satisfies.{Satisfies}
 use Rattle.dt_terms.specs.Problem.{ProblemData, IsProblem}
 use Rattle.dt_log.specs.declared.line.Claim.{Claim}
 use Rattle.dt_log.specs.declared.line.Line.{Line}
-use Rattle.dt_pair.specs.declared.Pair.{Pair}
-use Rattle.dt_pair.specs.Ops.{pair_ops}
-use Rattle.dt_pair.specs.Laws.{pair_laws}
+use Rattle.dt_sets.specs.declared.Triple.{Triple}
+use Rattle.dt_sets.specs.TripleOps.{triple_ops}
+use Rattle.dt_sets.specs.TripleLaws.{triple_laws}
 use Rattle.dt_check.proofs.Loop.{refuted_has_none}
 use Rattle.dt_solve.specs.Outcomes.{IsRefuted, IsSpent}
 use Rattle.dt_table.specs.Numbers.{numbers_of}
@@ -41,14 +41,14 @@ use Rattle.dt_top.proofs.Ended.{ends_as}
 pub image_end : (d : ModelData) (list : Requests) (i : Image) → IsMemory i.memory → Satisfies d list i → ListsReads d i → IsLoadEnd d list (ends.Image (length i.memory.words))
 image_end d list i memory satisfies reads = (i, record { meets = record { memory = memory; satisfies = satisfies }; reads = reads; number = refl })
 
-pub refuted_end : (d : ModelData) (list : Requests) (p : ProblemData) → TakesImages d list p → IsProblem p → (claim : Claim) (lines : List Line) → IsRefuted pair_ops p claim lines → NoneMeets d list
+pub refuted_end : (d : ModelData) (list : Requests) (p : ProblemData) → TakesImages d list p → IsProblem p → (claim : Claim) (lines : List Line) → IsRefuted triple_ops p claim lines → NoneMeets d list
 refuted_end d list p takes h claim lines r = λ i m.
     let memory = m.memory in
     let taken = takes i memory.fit m.satisfies in
-    refuted_has_none Pair pair_ops p pair_laws h claim lines r.splits (numbers_of d i) r.refutes taken.0 taken.1
+    refuted_has_none Triple triple_ops p triple_laws h claim lines r.splits (numbers_of d i) r.refutes taken.0 taken.1
 
-pub spent_end : (d : ModelData) (list : Requests) (p : ProblemData) → p ≡ table d list → (claim : Claim) (lines : List Line) → IsSpent pair_ops p load_splits claim lines → IsLoadEnd d list ends.Budget
-spent_end d list p is claim lines s = ((claim, lines), subst (λ (q : ProblemData). IsSpent pair_ops q load_splits claim lines) is s)
+pub spent_end : (d : ModelData) (list : Requests) (p : ProblemData) → p ≡ table d list → (claim : Claim) (lines : List Line) → IsSpent triple_ops p load_splits claim lines → IsLoadEnd d list ends.Budget
+spent_end d list p is claim lines s = ((claim, lines), subst (λ (q : ProblemData). IsSpent triple_ops q load_splits claim lines) is s)
 
 -- ---- the size of a generated list
 

@@ -11,8 +11,8 @@ use Rattle.dt_image.specs.Read.{reading}
 use Rattle.dt_satisfy.specs.Claims.{claims}
 use Rattle.dt_satisfy.specs.Satisfies.{Matches}
 use Rattle.dt_terms.specs.Problem.{ProblemData}
-use Rattle.dt_pair.specs.declared.Pair.{Pair}
-use Rattle.dt_pair.specs.Ops.{pair_ops}
+use Rattle.dt_sets.specs.declared.Triple.{Triple}
+use Rattle.dt_sets.specs.TripleOps.{triple_ops}
 use Rattle.dt_log.specs.declared.fault.LogFault.{LogFault}
 use Rattle.dt_log.specs.declared.fault.LogFault.TheVariants as faults
 use Rattle.dt_log.specs.Fault.{line_of as log_line, item_of as log_item, word_of as log_word}
@@ -181,13 +181,13 @@ verdict_line (Unfinished n) = open_line n
 verdict_line (Refused item cause) = item_line item cause
 
 abbrev pub verdict_on : ProblemData → LogData → Verdict
-verdict_on p log = verdict_of pair_ops p log.0 log.1
+verdict_on p log = verdict_of triple_ops p log.0 log.1
 
 pub closed_on : (p : ProblemData) (log : LogData) (s : ℕ) → IsRefutedBy p log s → verdict_on p log ≡ Closed s
-closed_on p log s r = is_closed Pair pair_ops p log.0 log.1 (verdict_on p log) s refl r
+closed_on p log s r = is_closed Triple triple_ops p log.0 log.1 (verdict_on p log) s refl r
 
 pub unfinished_on : (p : ProblemData) (log : LogData) (n : ℕ) → IsRecordedBy p log n → verdict_on p log ≡ Unfinished n
-unfinished_on p log n r = is_unfinished Pair pair_ops p log.0 log.1 (verdict_on p log) n refl r
+unfinished_on p log n r = is_unfinished Triple triple_ops p log.0 log.1 (verdict_on p log) n refl r
 
 judged_so : (p : ProblemData) (log : LogData) (files : List FileRead) (out : Outcome) → JudgingLog p log files out → Answered (verdict_status (verdict_on p log)) (verdict_line (verdict_on p log)) files out
 judged_so p log files out (inl h) = subst (λ v. Answered (verdict_status v) (verdict_line v) files out) (sym (closed_on p log h.0 h.1)) h.2

@@ -8,7 +8,7 @@ use Rattle.dt_image.specs.declared.image.Image.{Image}
 use Rattle.dt_image.specs.Print.{printed as image_text}
 use Rattle.dt_satisfy.specs.Satisfies.{Satisfies}
 use Rattle.dt_terms.specs.Problem.{ProblemData}
-use Rattle.dt_pair.specs.Ops.{pair_ops}
+use Rattle.dt_sets.specs.TripleOps.{triple_ops}
 use Rattle.dt_log.specs.Print.{printed as log_text}
 use Rattle.dt_log.specs.Read.{LogData, reading}
 use Rattle.dt_check.specs.Laws.{Refutation, Record}
@@ -31,11 +31,11 @@ pub record IsLogText (log : LogData) (text : List ℕ) : Type 0 where
 
 -- the log refutes the problem, with so many splits
 abbrev pub IsRefutedBy : ProblemData → LogData → ℕ → Type 0
-IsRefutedBy p log splits = Refutation pair_ops p log.0 log.1 splits
+IsRefutedBy p log splits = Refutation triple_ops p log.0 log.1 splits
 
 -- the log is the record of a search on the problem that ended after so many splits
 abbrev pub IsRecordedBy : ProblemData → LogData → ℕ → Type 0
-IsRecordedBy p log splits = Record pair_ops p log.0 log.1 splits
+IsRecordedBy p log splits = Record triple_ops p log.0 log.1 splits
 
 -- the text of an image that meets the list
 pub record IsStimulus (d : ModelData) (list : Requests) (text : List ℕ) : Type 0 where
@@ -57,5 +57,5 @@ pub record IsRefutation (d : ModelData) (list : Requests) (text : List ℕ) : Ty
 pub record IsRecord (d : ModelData) (list : Requests) (splits : ℕ) (text : List ℕ) : Type 0 where
   pub log : LogData
   pub text_is : IsLogText log text
-  pub spent : IsSpent pair_ops (table d list) splits log.0 log.1
+  pub spent : IsSpent triple_ops (table d list) splits log.0 log.1
   pub few : splits + 2 ≤ 2 ^ choice_bits d list

@@ -4,7 +4,7 @@ use Rattle.std.specs.Option.{option_map}
 use Rattle.dt_model.specs.ModelData.{ModelData}
 use Rattle.dt_request.specs.declared.list.Requests.{Requests}
 use Rattle.dt_terms.specs.Problem.{ProblemData}
-use Rattle.dt_pair.specs.Ops.{pair_ops}
+use Rattle.dt_sets.specs.TripleOps.{triple_ops}
 use Rattle.dt_log.specs.Read.{LogData}
 use Rattle.dt_check.specs.declared.verdict.Cause.{Cause}
 use Rattle.dt_check.specs.declared.verdict.Verdict.TheVariants.{Refused}
@@ -47,7 +47,7 @@ check_files job = model_files job.model ++ job.requests ∷ job.log ∷ []
 
 -- this is the first item of the log that has a cause, counted from 1, and the first of its causes
 abbrev pub IsRefusedItem : ProblemData → LogData → ℕ → Cause → Type 0
-IsRefusedItem p log item cause = verdict_of pair_ops p log.0 log.1 ≡ Refused item cause
+IsRefusedItem p log item cause = verdict_of triple_ops p log.0 log.1 ≡ Refused item cause
 
 -- the log refutes the problem, or is the record of a search that ended at its claim, or has a first item with a cause
 abbrev pub JudgingLog : ProblemData → LogData → List FileRead → Outcome → Type 0

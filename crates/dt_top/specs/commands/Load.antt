@@ -7,7 +7,7 @@ use Rattle.dt_model.specs.ModelData.{ModelData}
 use Rattle.dt_request.specs.declared.list.Requests.{Requests}
 use Rattle.dt_image.specs.declared.image.Image.{Image}
 use Rattle.dt_log.specs.Read.{LogData}
-use Rattle.dt_pair.specs.Ops.{pair_ops}
+use Rattle.dt_sets.specs.TripleOps.{triple_ops}
 use Rattle.dt_solve.specs.Outcomes.{IsSpent}
 use Rattle.dt_table.specs.Table.{table}
 use Rattle.dt_encode.specs.ReadWords.{ListsReads}
@@ -57,7 +57,7 @@ pub record IsLoad (d : ModelData) (list : Requests) (count : ℕ) (i : Image) : 
 abbrev pub IsLoadEnd : ModelData → Requests → LoadEnd → Type 0
 IsLoadEnd d list (ends.Image words) = (i : Image) × IsLoad d list words i
 IsLoadEnd d list ends.Impossible = NoneMeets d list
-IsLoadEnd d list ends.Budget = (log : LogData) × IsSpent pair_ops (table d list) load_splits log.0 log.1
+IsLoadEnd d list ends.Budget = (log : LogData) × IsSpent triple_ops (table d list) load_splits log.0 log.1
 
 -- ---- its answer, for which no file is read
 

@@ -27,7 +27,7 @@ use dt_edge::Shelf;
 use dt_lex::{Piece, push_row};
 use dt_log::Log;
 use dt_model::Accepted;
-use dt_pair::Pair;
+use dt_sets::Triple;
 use dt_request::Requests;
 use dt_terms::Problem;
 use std::alloc::Global;
@@ -99,7 +99,7 @@ fn judged(alloc: Global, problem: &Problem, log: &Log) -> Result<Reply, NoMemory
     ensures { IfOk result (λ reply. Replies (JudgingLog problem.now (log.now.claim, log.now.lines))
         reply.status (bytes_of reply.text)) }
 {
-    match check_log::<Pair>(alloc, problem, log)? {
+    match check_log::<Triple>(alloc, problem, log)? {
         Verdict::Closed(splits) => {
             let text = count_line(alloc, b"closed", splits)?;
             Ok(Reply::made(Status::Good, text))

@@ -27,7 +27,7 @@ use dt_encode::{EncodeFault, encode, image_of};
 use dt_lex::{Piece, push_row};
 use dt_make::{can_be_made, make_requests};
 use dt_model::Accepted;
-use dt_pair::Pair;
+use dt_sets::Triple;
 use dt_request::Requests;
 use dt_solve::{Outcome, Picks, search};
 use dt_sv39::sv39_model;
@@ -147,7 +147,7 @@ fn searched(
     ensures { IfOk result (IsLoadEnd (accepted_data model.now) list.now) }
 {
     let _ = &problem.terms;
-    match search::<Pair, Picks>(alloc, problem, MOST_SPLITS, &mut Picks)? {
+    match search::<Triple, Picks>(alloc, problem, MOST_SPLITS, &mut Picks)? {
         Outcome::Found(numbers) => found(alloc, model, list, numbers.as_slice()),
         Outcome::Refuted(_log) => Ok(LoadEnd::Impossible),
         Outcome::Spent(_log) => Ok(LoadEnd::Budget),

@@ -25,7 +25,7 @@ use dt_encode::image_of;
 use dt_image::print_image;
 use dt_log::print_log;
 use dt_model::Accepted;
-use dt_pair::Pair;
+use dt_sets::Triple;
 use dt_request::Requests;
 use dt_solve::{Outcome, Picks, search};
 use dt_terms::Problem;
@@ -114,7 +114,7 @@ fn searched(
         reply.status (bytes_of reply.text)) }
 {
     let _ = &problem.terms;
-    match search::<Pair, Picks>(alloc, problem, splits, &mut Picks)? {
+    match search::<Triple, Picks>(alloc, problem, splits, &mut Picks)? {
         Outcome::Found(numbers) => {
             let text = image_text(alloc, model, list, numbers.as_slice())?;
             Ok(Reply::made(Status::Good, text))
