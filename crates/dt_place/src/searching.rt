@@ -24,7 +24,7 @@ pub fn search_list<D: Deciding>(
     limit: u64,
     seed: u64,
 ) -> Result<Outcome, NoMemory>
-    ensures { IfOk result (IsAnswer D.ops problem.now limit) }
+    ensures answer { IfOk result (λ outcome. IsAnswer D.ops problem.now limit outcome) }
 {
     let _ = &problem.terms;
     let mut placer = Placer::new(alloc, model, requests, seed)?;

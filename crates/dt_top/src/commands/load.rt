@@ -27,9 +27,10 @@ use dt_encode::{EncodeFault, encode, image_of};
 use dt_lex::{Piece, push_row};
 use dt_make::{can_be_made, make_requests};
 use dt_model::Accepted;
-use dt_sets::Triple;
+use dt_place::search_list;
 use dt_request::Requests;
-use dt_solve::{Outcome, Picks, search};
+use dt_sets::Triple;
+use dt_solve::Outcome;
 use dt_sv39::sv39_model;
 use dt_terms::Problem;
 use std::alloc::Global;
@@ -134,12 +135,13 @@ fn found(
     })
 }
 
-// How the search ends on the problem of the list.
+// How the search ends on the problem of the list, of which layouts are tried that this seed draws.
 fn searched(
     alloc: Global,
     model: &Accepted,
     list: &Requests,
     problem: &Problem,
+    seed: u64,
 ) -> Result<LoadEnd, NoMemory>
     requires list { IsList (accepted_data model.now) list.now }
     requires problem { problem.now ≡ table (accepted_data model.now) list.now }
@@ -147,7 +149,7 @@ fn searched(
     ensures { IfOk result (IsLoadEnd (accepted_data model.now) list.now) }
 {
     let _ = &problem.terms;
-    match search::<Triple, Picks>(alloc, problem, MOST_SPLITS, &mut Picks)? {
+    match search_list::<Triple>(alloc, model, list, problem, MOST_SPLITS, seed)? {
         Outcome::Found(numbers) => found(alloc, model, list, numbers.as_slice()),
         Outcome::Refuted(_log) => Ok(LoadEnd::Impossible),
         Outcome::Spent(_log) => Ok(LoadEnd::Budget),
@@ -177,7 +179,7 @@ fn ended(alloc: Global, n: u64) -> Result<LoadEnd, EncodeFault>
     let model = sv39_model(alloc)?;
     let list = made_list(alloc, &model, n)?;
     let problem = encode(alloc, &model, &list)?;
-    Ok(searched(alloc, &model, &list, &problem)?)
+    Ok(searched(alloc, &model, &list, &problem, n)?)
 }
 
 // Appends a line of a word and a number.
@@ -203,7 +205,7 @@ fn end_lines(alloc: Global, n: u64, end: LoadEnd) -> Result<Vec<u8>, NoMemory>
 
 #[tactic(auto, using(crate::proofs::Loaded::replies_loaded))]
 /// The answer: how the search for an image that meets the generated list ended, with at most 10,000
-/// splits, and how many words the image has.
+/// splits and the seed N, and how many words the image has.
 pub fn load_reply(alloc: Global, n: u64) -> Reply
     requires { has_list n ≡ true }
     ensures { Replies (Loading (record { n = n })) result.status (bytes_of result.text) }

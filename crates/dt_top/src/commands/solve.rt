@@ -25,9 +25,10 @@ use dt_encode::image_of;
 use dt_image::print_image;
 use dt_log::print_log;
 use dt_model::Accepted;
-use dt_sets::Triple;
+use dt_place::search_list;
 use dt_request::Requests;
-use dt_solve::{Outcome, Picks, search};
+use dt_sets::Triple;
+use dt_solve::Outcome;
 use dt_terms::Problem;
 use std::alloc::Global;
 
@@ -98,13 +99,15 @@ fn image_text(
     print_image(alloc, model, &image)
 }
 
-// The answer of a search with at most so many splits on the problem of the list.
+// The answer of a search with at most so many splits on the problem of the list, of which layouts are
+// tried that this seed draws.
 fn searched(
     alloc: Global,
     model: &Accepted,
     list: &Requests,
     problem: &Problem,
     splits: u64,
+    seed: u64,
 ) -> Result<Reply, NoMemory>
     requires list { IsList (accepted_data model.now) list.now }
     requires problem { problem.now ≡ table (accepted_data model.now) list.now }
@@ -114,7 +117,7 @@ fn searched(
         reply.status (bytes_of reply.text)) }
 {
     let _ = &problem.terms;
-    match search::<Triple, Picks>(alloc, problem, splits, &mut Picks)? {
+    match search_list::<Triple>(alloc, model, list, problem, splits, seed)? {
         Outcome::Found(numbers) => {
             let text = image_text(alloc, model, list, numbers.as_slice())?;
             Ok(Reply::made(Status::Good, text))
@@ -131,9 +134,15 @@ fn searched(
 }
 
 /// The answer to a list, with at most so many splits: the text of an image that meets it, or that of
-/// a log that refutes its problem, or that of a record of exactly so many splits. A list that is too
-/// large is refused.
-pub fn solve_reply(alloc: Global, model: &Accepted, list: &Requests, splits: u64) -> Reply
+/// a log that refutes its problem, or that of a record of exactly so many splits. The seed fixes what
+/// is drawn for the layouts that are tried. A list that is too large is refused.
+pub fn solve_reply(
+    alloc: Global,
+    model: &Accepted,
+    list: &Requests,
+    splits: u64,
+    seed: u64,
+) -> Reply
     requires list { IsList (accepted_data model.now) list.now }
     ensures { Replies (SolvingList splits (accepted_data model.now) list.now)
         result.status (bytes_of result.text) }
@@ -142,7 +151,7 @@ pub fn solve_reply(alloc: Global, model: &Accepted, list: &Requests, splits: u64
         Ok(problem) => problem,
         Err(reply) => return reply,
     };
-    match searched(alloc, model, list, &problem, splits) {
+    match searched(alloc, model, list, &problem, splits, seed) {
         Ok(reply) => reply,
         Err(_) => Reply::no_memory(),
     }
@@ -156,7 +165,10 @@ pub fn perform<S: Shelf>(alloc: Global, shelf: &mut S, job: SolveJob<'_>) -> Rep
         result.status (bytes_of result.text) }
 {
     match model_and_list(alloc, shelf, job.model, job.requests) {
-        Ok(question) => solve_reply(alloc, &question.model, &question.list, job.splits),
+        Ok(question) => {
+            let (splits, seed) = (job.splits, job.seed);
+            solve_reply(alloc, &question.model, &question.list, splits, seed)
+        }
         Err(reply) => reply,
     }
 }
