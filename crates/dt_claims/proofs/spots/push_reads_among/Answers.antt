@@ -14,4 +14,4 @@ loop-n-preserved c =
     spots_grown (read_spots ws k) (λ n p o. read_spot ws k n p o) (reads_first ws k) (map spot c.loop-n.spots.items) (map spot c.push_read.new.spots.items) _ c.args.nodes.now c.args.outs.now c.loop-n.n c.in-Some.node.now no_out found.3.0 found.1 c.loop-n-test.true c.in_ok-push_read.ensures c.loop-n.invariant
 
 pub returns : goal.returns
-returns c = outs_end (read_spots c.args.ways.now c.args.access) (reads_none c.args.ways.now c.args.access) (map spot c.loop-n.spots.items) _ c.args.nodes.now c.args.outs.now c.loop-n.n _ c.loop-n.invariant
+returns c = outs_end (read_spots c.args.ways.now c.args.access) (reads_none c.args.ways.now c.args.access) (map spot c.loop-n.spots.items) _ c.args.nodes.now c.args.outs.now c.loop-n.n c.loop-n-test.false c.loop-n.invariant
