@@ -22,7 +22,7 @@ use Rattle.dt_stage.proofs.Values.{h_part, h_joined, h_value, h_as, s_is}
 use Rattle.dt_sv39.proofs.Walks.{cell_sum}
 use Rattle.dt_sv39x4.specs.declared.guest.Guest.{Guest}
 use Rattle.dt_sv39x4.specs.Shipped.{hgatp, is_bare, level, guest_head, guest_stage, guest_results, guest_nodes, result_nodes, at_access_fault, at_guest_fault}
-use Rattle.dt_sv39x4.proofs.Results.{no_more, first_at, ResultsStand, leaf_at_2, leaf_at_1, leaf_at_0}
+use Rattle.dt_sv39x4.proofs.Leaves.{no_more, first_at, ResultsStand, leaf_at_2, leaf_at_1, leaf_at_0}
 
 top_sum : (h x : ℕ) → field 1 0 h ≡ 0 → field 43 2 h * 2 ^ 14 + (x * 2 ^ 3 + 0) ≡ field 43 0 h * 4096 + x * 8
 top_sum h x e = omega arith

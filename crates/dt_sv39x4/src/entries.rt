@@ -5,13 +5,13 @@ ghost use Rattle.dt_model.specs.ModelData.{tree_of, node_of, bind};
 ghost use Rattle.dt_stage.specs.Level.{level_of};
 ghost use Rattle.dt_stage.specs.Stage.{shape_of, stage_nodes, GoesByLevels};
 ghost use Rattle.dt_sv39.specs.Shipped.{acts as named_node, entry_at as entry_of};
-ghost use Rattle.dt_sv39x4.specs.Shipped.{wide as widened, guest_nodes as shipped_guest, guest_stage, guest_a, guest_b, guest_c, guest_final, fetch2 as shipped_fetch2, fetch1 as shipped_fetch1, fetch0 as shipped_fetch0, virtual_stage, virtual_results, result_nodes, head as shipped_head};
+ghost use Rattle.dt_sv39x4.specs.Shipped.{wide as widened, guest_nodes as shipped_guest, guest_stage, guest_a, guest_b, guest_c, guest_final, fetch2 as shipped_fetch2, fetch1 as shipped_fetch1, fetch0 as shipped_fetch0, virtual_stage, virtual_results, result_nodes as shipped_result_nodes, head as shipped_head};
 
 use crate::guest::{Guest, chained, guest_nodes};
 use crate::names::{a_guest, b_guest, c_guest, g_guest, v_results, v_stage};
 use crate::permission::{Permission, level};
 use crate::positions::{ACCESS_FAULT, FINAL, G_PAGE, LED, PAGE_FAULT, STAGE, V0, V1, V2, V_PAGE};
-use crate::results::{Address, Exits, Results, results, wide};
+use crate::results::{Address, Exits, Results, result_nodes, wide};
 use dt_bits::NoMemory;
 use dt_model::{Act, Expr, Node};
 use dt_stage::{StagePlan, is, part, stage};
@@ -193,7 +193,7 @@ pub fn virtual_nodes(alloc: Global) -> Result<Vec<Node>, NoMemory>
 
 /// The nodes of the VS-stage's results.
 pub fn led_nodes(alloc: Global) -> Result<Vec<Node>, NoMemory>
-    ensures { IfOk result (λ v. map node_of v.items ≡ result_nodes virtual_results) }
+    ensures { IfOk result (λ v. map node_of v.items ≡ shipped_result_nodes virtual_results) }
 {
     let exits = Exits {
         page30: V_PAGE + 1,
@@ -209,7 +209,7 @@ pub fn led_nodes(alloc: Global) -> Result<Vec<Node>, NoMemory>
         out: 15,
         exits,
     };
-    results(alloc, ends)
+    result_nodes(alloc, ends)
 }
 
 /// What is decided before the first table: Bare, and the sign extension of the address.

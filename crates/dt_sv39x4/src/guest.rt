@@ -9,7 +9,7 @@ ghost use Rattle.dt_sv39x4.specs.Shipped.{hgatp as root, is_bare as bare, guest_
 
 use crate::permission::{Permission, level};
 use crate::positions::{ACCESS_FAULT, GUEST_FAULT};
-use crate::results::{Address, Exits, ResultNames, Results, lets, results};
+use crate::results::{Address, Exits, ResultNames, Results, lets, result_nodes};
 use dt_bits::NoMemory;
 use dt_lex::Name;
 use dt_model::{Expr, Node};
@@ -160,7 +160,7 @@ pub fn guest_nodes(alloc: Global, g: Guest) -> Result<Vec<Node>, NoMemory>
         exits: g.exits,
     };
     let first = head(alloc, g)?;
-    let levels = chained(tables(alloc, g)?, results(alloc, ends)?)?;
+    let levels = chained(tables(alloc, g)?, result_nodes(alloc, ends)?)?;
     let all = chained(first, levels)?;
     Ok(all)
 }

@@ -2,6 +2,7 @@
 ghost use Rattle.std.specs.Prelude.{◌≡◌, IfOk};
 ghost use Rattle.dt_model.specs.ModelData.{tree_of, var};
 ghost use Rattle.dt_stage.specs.Level.{level_of};
+ghost use Rattle.dt_stage.specs.Trees.{bit as one_bit};
 ghost use Rattle.dt_sv39x4.specs.Shipped.{allows as allowed, serves as served, permits as permitted, stores as storing, level as placed_level};
 
 use dt_bits::NoMemory;
@@ -58,6 +59,13 @@ fn serves(alloc: Global, e: u32) -> Result<Expr, NoMemory>
     )
 }
 
+// U of entry `e`.
+fn is_for_user(alloc: Global, e: u32) -> Result<Expr, NoMemory>
+    ensures { IfOk result (λ t. tree_of t ≡ one_bit 4 (var e)) }
+{
+    bit(alloc, 4, Expr::Var(e))
+}
+
 // Entry `e` may be used as a leaf.
 fn permits(alloc: Global, permission: Permission, e: u32) -> Result<Expr, NoMemory>
     ensures { IfOk result (λ t. tree_of t ≡ permitted permission (var e)) }
@@ -67,16 +75,14 @@ fn permits(alloc: Global, permission: Permission, e: u32) -> Result<Expr, NoMemo
             let mxr = either(alloc, Expr::Reg(VMXR), Expr::Reg(HMXR))?;
             both(alloc, serves(alloc, e)?, allows(alloc, mxr, e)?)
         }
-        Permission::Implicit => both(
-            alloc,
-            bit(alloc, 4, Expr::Var(e))?,
-            bit(alloc, 1, Expr::Var(e))?,
-        ),
-        Permission::Explicit => both(
-            alloc,
-            bit(alloc, 4, Expr::Var(e))?,
-            allows(alloc, Expr::Reg(HMXR), e)?,
-        ),
+        Permission::Implicit => {
+            let readable = bit(alloc, 1, Expr::Var(e))?;
+            both(alloc, is_for_user(alloc, e)?, readable)
+        }
+        Permission::Explicit => {
+            let allowed = allows(alloc, Expr::Reg(HMXR), e)?;
+            both(alloc, is_for_user(alloc, e)?, allowed)
+        }
     }
 }
 

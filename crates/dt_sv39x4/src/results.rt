@@ -3,7 +3,7 @@ ghost use Rattle.std.specs.Prelude.{◌≡◌, ◌<◌, map, IfOk};
 ghost use Rattle.dt_model.specs.ModelData.{tree_of, node_of};
 ghost use Rattle.dt_stage.specs.Level.{node as named_node};
 ghost use Rattle.dt_model.specs.ModelData.{bind};
-ghost use Rattle.dt_sv39x4.specs.Shipped.{leads as leading, wide as widened, held as holding, led as leading_to, result_nodes};
+ghost use Rattle.dt_sv39x4.specs.Shipped.{leads as leading, wide as widened, held as holding, led as leading_to, result_nodes as shipped_result_nodes};
 
 use dt_bits::NoMemory;
 use dt_lex::Name;
@@ -92,10 +92,10 @@ fn led(alloc: Global, address: Address, entry: u32, lo: u32, low: u32) -> Result
 
 /// The nodes of a stage's results.
 #[tactic(auto, using(crate::proofs::Joins::joins))]
-pub fn results(alloc: Global, r: Results) -> Result<Vec<Node>, NoMemory>
+pub fn result_nodes(alloc: Global, r: Results) -> Result<Vec<Node>, NoMemory>
     requires at { r.at < 1000 }
     requires entry { r.entry < 1000 }
-    ensures { IfOk result (λ v. map node_of v.items ≡ result_nodes r) }
+    ensures { IfOk result (λ v. map node_of v.items ≡ shipped_result_nodes r) }
 {
     let to30 = led(alloc, r.address, r.entry, 28, 29)?;
     let to21 = led(alloc, r.address, r.entry + 1, 19, 20)?;
