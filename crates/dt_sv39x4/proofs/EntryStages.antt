@@ -1,6 +1,6 @@
 -- The VS-stage's entries, each at the end of the G-stage of its address.
 use Rattle.std.proofs.Common.{◌≡◌, ℕ, ◌+◌, ◌*◌, ◌/◌, ◌%◌, ◌^◌, ◌<◌, Bool, true, eqb, [], refl, ap, ◌∙◌, arith}
-use Rattle.std.proofs.lemmas.Bool.{eqb-true}
+use Rattle.std.proofs.lemmas.Bool.{eqb-true, eq-eqb}
 use Rattle.dt_bits.specs.Memory.{Memory}
 use Rattle.dt_model.specs.ModelData.{Tree, var}
 use Rattle.dt_walk.specs.Meaning.{Vars, bound}
@@ -24,7 +24,7 @@ use Rattle.dt_sv39.proofs.Walks.{cell_sum}
 use Rattle.dt_sv39x4.specs.Expected.{both_bare}
 use Rattle.dt_sv39x4.specs.Shipped as shipped
 use Rattle.dt_sv39x4.specs.Shipped.{wide, virtual_stage, guest_stage, guest_a, guest_b, guest_c}
-use Rattle.dt_sv39x4.proofs.Final.{k_final, same_number}
+use Rattle.dt_sv39x4.proofs.Final.{k_final}
 use Rattle.dt_sv39x4.proofs.GuestStage.{guest_tells}
 use Rattle.dt_sv39x4.proofs.Machine.{env, graph, forward, h_vsatp, h_hgatp, h_va, read_tested, access_faults, guest_faults}
 use Rattle.dt_sv39x4.proofs.Places.{read_node, ends_at}
@@ -90,7 +90,7 @@ fetch_2 c m a owed aligned w next r =
       at16 = λ v y k q z. r v y refl (h_var (env c a) v 4 56 y refl q);
       at12 = λ v y k q z. r v y refl (h_var (env c a) v 4 56 y refl q);
     })
-    (bound w 0 x) (same_number x x refl)
+    (bound w 0 x) (eq-eqb x x refl)
     ∙ fetch_goes read_node (k_vs c m a) vs (vs_stage c a) m 2 a.va next (g_walk c m (of_entry 2) Implicit x)
 
 pub fetch_1 : (c : Sv39x4Setting) (m : Memory) (a : Access) → GoesByLevels (guest_stage guest_b) → field 1 0 c.hgatp ≡ 0 → (w : Vars) (e : ℕ) (next : ℕ → Walked) → w 20 ≡ e → ReadsAs (graph c m a) vs (vs_stage c a) 1 a.va (placed_1 virtual_stage) read_node all (k_vs c m a) next
@@ -125,7 +125,7 @@ fetch_1 c m a owed aligned w e next j r =
       at16 = λ v y k q z. r v y refl (h_var (env c a) v 9 56 y refl q);
       at12 = λ v y k q z. r v y refl (h_var (env c a) v 9 56 y refl q);
     })
-    (bound w 5 x) (same_number x x refl)
+    (bound w 5 x) (eq-eqb x x refl)
     ∙ fetch_goes read_node (k_vs c m a) vs (vs_stage c a) m 1 a.va next (g_walk c m (of_entry 1) Implicit x)
 
 pub fetch_0 : (c : Sv39x4Setting) (m : Memory) (a : Access) → GoesByLevels (guest_stage guest_c) → field 1 0 c.hgatp ≡ 0 → (w : Vars) (e : ℕ) (next : ℕ → Walked) → w 21 ≡ e → ReadsAs (graph c m a) vs (vs_stage c a) 0 a.va (placed_0 virtual_stage) read_node all (k_vs c m a) next
@@ -160,5 +160,5 @@ fetch_0 c m a owed aligned w e next j r =
       at16 = λ v y k q z. r v y refl (h_var (env c a) v 14 56 y refl q);
       at12 = λ v y k q z. r v y refl (h_var (env c a) v 14 56 y refl q);
     })
-    (bound w 10 x) (same_number x x refl)
+    (bound w 10 x) (eq-eqb x x refl)
     ∙ fetch_goes read_node (k_vs c m a) vs (vs_stage c a) m 0 a.va next (g_walk c m (of_entry 0) Implicit x)

@@ -9,3 +9,4 @@ pub mod Final
 pub mod EntryStages
 pub mod Walks
 pub mod Legal
+pub mod Short

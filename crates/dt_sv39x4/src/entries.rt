@@ -40,7 +40,7 @@ fn always(exit: u32) -> Exits
 
 // The G-stages of the entries' addresses, which go on at the entries' reads, and that of the final
 // address, which goes on at its page.
-fn a() -> Guest
+fn guest_of_2() -> Guest
     ensures { result ≡ guest_a }
 {
     Guest {
@@ -53,7 +53,7 @@ fn a() -> Guest
     }
 }
 
-fn b() -> Guest
+fn guest_of_1() -> Guest
     ensures { result ≡ guest_b }
 {
     Guest {
@@ -66,7 +66,7 @@ fn b() -> Guest
     }
 }
 
-fn c() -> Guest
+fn guest_of_0() -> Guest
     ensures { result ≡ guest_c }
 {
     Guest {
@@ -79,7 +79,7 @@ fn c() -> Guest
     }
 }
 
-fn last() -> Guest
+fn guest_at_end() -> Guest
     ensures { result ≡ guest_final }
 {
     Guest {
@@ -102,10 +102,11 @@ pub fn final_nodes(alloc: Global) -> Result<Vec<Node>, NoMemory>
     ensures nodes { IfOk result (λ v. map node_of v.items ≡ shipped_guest guest_final) }
     ensures walks { IfOk result (λ v. GoesByLevels (guest_stage guest_final)) }
 {
-    guest_nodes(alloc, last())
+    guest_nodes(alloc, guest_at_end())
 }
 
 // An entry's address into the first variable of its G-stage, which follows.
+#[tactic(auto, using(crate::proofs::Joins::joins))]
 fn address(
     alloc: Global,
     name: &[u8],
@@ -135,7 +136,7 @@ fn fetch_2(alloc: Global) -> Result<Vec<Node>, NoMemory>
 {
     let root = part(alloc, 43, 0, Expr::Reg(VSATP))?;
     let first = address(alloc, b"a_address", root, va(alloc, 38, 30)?, 0, 4)?;
-    let all = chained(first, guest_nodes(alloc, a())?)?;
+    let all = chained(first, guest_nodes(alloc, guest_of_2())?)?;
     Ok(all)
 }
 
@@ -145,7 +146,7 @@ fn fetch_1(alloc: Global) -> Result<Vec<Node>, NoMemory>
 {
     let table = part(alloc, 53, 10, Expr::Var(PTE2))?;
     let first = address(alloc, b"b_address", table, va(alloc, 29, 21)?, 5, 33)?;
-    let all = chained(first, guest_nodes(alloc, b())?)?;
+    let all = chained(first, guest_nodes(alloc, guest_of_1())?)?;
     Ok(all)
 }
 
@@ -155,7 +156,7 @@ fn fetch_0(alloc: Global) -> Result<Vec<Node>, NoMemory>
 {
     let table = part(alloc, 53, 10, Expr::Var(PTE1))?;
     let first = address(alloc, b"c_address", table, va(alloc, 20, 12)?, 10, 62)?;
-    let all = chained(first, guest_nodes(alloc, c())?)?;
+    let all = chained(first, guest_nodes(alloc, guest_of_0())?)?;
     Ok(all)
 }
 

@@ -119,7 +119,7 @@ fn level_0(alloc: Global, g: Guest) -> Result<Level, NoMemory>
 fn plan(alloc: Global, g: Guest) -> Result<StagePlan, NoMemory>
     requires at { g.at < 900 }
     requires base { g.base < 900 }
-    ensures shape { IfOk result (λ p. shape_of p ≡ shipped_stage g) }
+    ensures { IfOk result (λ p. shape_of p ≡ shipped_stage g) }
 {
     Ok(StagePlan {
         names: g.names.stage,
