@@ -19,5 +19,6 @@ mod permission;
 mod positions;
 mod results;
 mod shipped;
+mod vars;
 
 pub use shipped::sv39x4_model;

@@ -3,15 +3,16 @@ ghost use Rattle.std.specs.Prelude.{◌≡◌, map, IfOk};
 ghost use Rattle.dt_model.specs.Accepted.{accepted_data};
 ghost use Rattle.dt_model.specs.ModelData.{tree_of, node_of, data_of};
 ghost use Rattle.dt_stage.specs.Stage.{GoesByLevels};
-ghost use Rattle.dt_sv39x4.specs.Shipped.{guest_stage, guest_a, guest_b, guest_c, guest_final, virtual_stage, behind as shipped_behind, nodes as shipped_nodes, vars as shipped_vars, vsatp_rule as shipped_vsatp_rule, hgatp_rule as shipped_hgatp_rule, access_rule as shipped_access_rule, sv39x4_data};
+ghost use Rattle.dt_sv39x4.specs.Shipped.{guest_stage, guest_a, guest_b, guest_c, guest_final, virtual_stage, behind as shipped_behind, nodes as shipped_nodes, vsatp_rule as shipped_vsatp_rule, hgatp_rule as shipped_hgatp_rule, access_rule as shipped_access_rule, sv39x4_data};
 ghost use Rattle.dt_sv39x4.specs.Law.{WalksAsManual, IsLegalAsManual};
 
 use crate::choice::{choice, guest_pages, results, virtual_pages};
 use crate::entries::{final_nodes, head, led_nodes, virtual_nodes};
 use crate::faults::faults;
 use crate::guest::chained;
+use crate::vars::vars;
 use dt_bits::{NoMemory, Seq};
-use dt_model::{Accepted, Expr, Model, Named, Node};
+use dt_model::{Accepted, Expr, Model, Node};
 use dt_stage::{both, either, is, no, part};
 use dt_sv39::{kind_is, named};
 use std::alloc::Global;
@@ -70,19 +71,6 @@ fn access_rule(alloc: Global) -> Result<Expr, NoMemory>
     ensures { IfOk result (λ e. tree_of e ≡ shipped_access_rule) }
 {
     no(alloc, kind_is(alloc, 3)?)
-}
-
-fn vars(alloc: Global) -> Result<Vec<Named>, NoMemory>
-    ensures { IfOk result (λ v. v.items ≡ shipped_vars) }
-{
-    Ok(
-        vec![in alloc;
-            named(b"a_at", 64), named(b"a_pte2", 64), named(b"a_pte1", 64), named(b"a_pte0", 64), named(b"a_pa", 56),
-            named(b"b_at", 64), named(b"b_pte2", 64), named(b"b_pte1", 64), named(b"b_pte0", 64), named(b"b_pa", 56),
-            named(b"c_at", 64), named(b"c_pte2", 64), named(b"c_pte1", 64), named(b"c_pte0", 64), named(b"c_pa", 56),
-            named(b"g_at", 64), named(b"g_pte2", 64), named(b"g_pte1", 64), named(b"g_pte0", 64), named(b"g_pa", 56),
-            named(b"v_pte2", 64), named(b"v_pte1", 64), named(b"v_pte0", 64), named(b"v_page", 5), named(b"g_page", 5)]?,
-    )
 }
 
 fn model(alloc: Global) -> Result<Model, NoMemory>
