@@ -1,6 +1,6 @@
 -- The positions of nodes, and the nodes of these names.
 use Rattle.std.proofs.Common.{◌≡◌, ℕ, ◌+◌, Bool, true, false, eqb, List, [], ◌∷◌, ◌++◌, map, refl, sym, ap, ◌∙◌}
-use Rattle.std.specs.Prelude.{if◌then◌else◌, codes}
+use Rattle.std.specs.Prelude.{◌==◌, if◌then◌else◌, codes}
 use Rattle.dt_manual.specs.declared.access.Kind.{Kind}
 use Rattle.dt_manual.specs.declared.access.Kind.TheVariants.{Fetch, Load, Store}
 use Rattle.dt_manual.specs.Levels.{Part, single, vs, of_entry, of_final, Entry, Cause, page_fault, guest_fault, access_fault, StageEnd, reached, stopped, Walked}

@@ -130,14 +130,28 @@ fn address(
     Ok(vec![in alloc; node]?)
 }
 
+fn guest_nodes_2(alloc: Global) -> Result<Vec<Node>, NoMemory>
+    ensures nodes { IfOk result (λ v. map node_of v.items ≡ shipped_guest guest_a) }
+    ensures walks { IfOk result (λ v. GoesByLevels (guest_stage guest_a)) }
+{
+    guest_nodes(alloc, guest_of_2())
+}
+
 fn fetch_2(alloc: Global) -> Result<Vec<Node>, NoMemory>
     ensures nodes { IfOk result (λ v. map node_of v.items ≡ shipped_fetch2) }
     ensures walks { IfOk result (λ v. GoesByLevels (guest_stage guest_a)) }
 {
     let root = part(alloc, 43, 0, Expr::Reg(VSATP))?;
     let first = address(alloc, b"a_address", root, va(alloc, 38, 30)?, 0, 4)?;
-    let all = chained(first, guest_nodes(alloc, guest_of_2())?)?;
+    let all = chained(first, guest_nodes_2(alloc)?)?;
     Ok(all)
+}
+
+fn guest_nodes_1(alloc: Global) -> Result<Vec<Node>, NoMemory>
+    ensures nodes { IfOk result (λ v. map node_of v.items ≡ shipped_guest guest_b) }
+    ensures walks { IfOk result (λ v. GoesByLevels (guest_stage guest_b)) }
+{
+    guest_nodes(alloc, guest_of_1())
 }
 
 fn fetch_1(alloc: Global) -> Result<Vec<Node>, NoMemory>
@@ -146,8 +160,15 @@ fn fetch_1(alloc: Global) -> Result<Vec<Node>, NoMemory>
 {
     let table = part(alloc, 53, 10, Expr::Var(PTE2))?;
     let first = address(alloc, b"b_address", table, va(alloc, 29, 21)?, 5, 33)?;
-    let all = chained(first, guest_nodes(alloc, guest_of_1())?)?;
+    let all = chained(first, guest_nodes_1(alloc)?)?;
     Ok(all)
+}
+
+fn guest_nodes_0(alloc: Global) -> Result<Vec<Node>, NoMemory>
+    ensures nodes { IfOk result (λ v. map node_of v.items ≡ shipped_guest guest_c) }
+    ensures walks { IfOk result (λ v. GoesByLevels (guest_stage guest_c)) }
+{
+    guest_nodes(alloc, guest_of_0())
 }
 
 fn fetch_0(alloc: Global) -> Result<Vec<Node>, NoMemory>
@@ -156,7 +177,7 @@ fn fetch_0(alloc: Global) -> Result<Vec<Node>, NoMemory>
 {
     let table = part(alloc, 53, 10, Expr::Var(PTE1))?;
     let first = address(alloc, b"c_address", table, va(alloc, 20, 12)?, 10, 62)?;
-    let all = chained(first, guest_nodes(alloc, guest_of_0())?)?;
+    let all = chained(first, guest_nodes_0(alloc)?)?;
     Ok(all)
 }
 
