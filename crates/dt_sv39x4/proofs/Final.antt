@@ -1,6 +1,6 @@
 -- The G-stage of the final address, and the choice of the smaller page.
 use Rattle.std.proofs.Common.{◌≡◌, ℕ, ◌<◌, ◌^◌, Bool, true, false, ◌&&◌, ◌||◌, eqb, refl, sym, ap, ◌∙◌}
-use Rattle.std.specs.Prelude.{if◌then◌else◌, slice_get, Some, codes}
+use Rattle.std.specs.Prelude.{if◌then◌else◌, slice_get, Some}
 use Rattle.std.proofs.lemmas.Bool.{eqb-true, eq-eqb}
 use Rattle.dt_bits.specs.Memory.{Memory}
 use Rattle.dt_model.specs.ModelData.{value, var, bind}
@@ -23,7 +23,7 @@ use Rattle.dt_stage.proofs.OneLevel.{h_var}
 use Rattle.dt_stage.proofs.Values.{s_both, s_either, s_is}
 use Rattle.dt_sv39x4.specs.Expected.{both_bare}
 use Rattle.dt_sv39x4.specs.Shipped.{sv39x4_data, one_is, guest_stage, guest_final}
-use Rattle.dt_sv39x4.proofs.GuestStage.{GuestStands, guest_tells}
+use Rattle.dt_sv39x4.proofs.GuestStage.{guest_tells}
 use Rattle.dt_sv39x4.proofs.Machine.{env, graph, forward, h_hgatp, guest_tested, access_faults, guest_faults}
 use Rattle.dt_sv39x4.proofs.Places.{read_node, done_node, ends_at}
 use Rattle.dt_sv39x4.proofs.Stands.{final_stands}
@@ -100,8 +100,10 @@ choice c m a v g y w hy hv hg =
   where
     v_is : Has (env c a) w (var 23) 5 (size v)
     v_is = h_var (env c a) w 23 5 (size v) refl hv
+
     g_is : Has (env c a) w (var 24) 5 (size g)
     g_is = h_var (env c a) w 24 5 (size g) refl hg
+
     y_is : Has (env c a) w (var 19) 56 y
     y_is = h_var (env c a) w 19 56 y refl hy
 

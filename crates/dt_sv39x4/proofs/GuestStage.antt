@@ -1,8 +1,8 @@
 -- The G-stage's nodes do what the manual's G-stage says: one proof for the four of them.
-use Rattle.std.proofs.Common.{◌≡◌, ℕ, ◌+◌, ◌*◌, ◌^◌, ◌<◌, Bool, true, false, not, eqb, List, Option, Some, refl, sym, ap, ◌∙◌, subst, arith}
-use Rattle.std.specs.Prelude.{if◌then◌else◌, slice_get, ◌++◌}
+use Rattle.std.proofs.Common.{◌≡◌, ℕ, ◌+◌, ◌*◌, ◌^◌, ◌<◌, Bool, true, false, not, eqb, Some, refl, sym, ap, ◌∙◌, subst, arith}
+use Rattle.std.specs.Prelude.{if◌then◌else◌, ◌++◌}
 use Rattle.std.proofs.lemmas.Bool.{eqb-true}
-use Rattle.dt_model.specs.ModelData.{Tree, ActData, var}
+use Rattle.dt_model.specs.ModelData.{Tree, var}
 use Rattle.dt_model.specs.Widths.{width_at}
 use Rattle.dt_walk.specs.Meaning.{Vars, bound}
 use Rattle.dt_manual.specs.declared.access.Sv39x4Setting.{Sv39x4Setting}

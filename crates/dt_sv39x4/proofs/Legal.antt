@@ -1,16 +1,15 @@
 -- The shipped model's rules hold of exactly the legal settings and accesses.
-use Rattle.std.proofs.Common.{◌≡◌, ℕ, Bool, true, false, not, ◌&&◌, ◌||◌, eqb, [], ◌∷◌, refl, sym, ap, ◌∙◌, subst}
+use Rattle.std.proofs.Common.{◌≡◌, ℕ, Bool, true, false, not, ◌&&◌, eqb, [], ◌∷◌, refl, sym, ap, ◌∙◌, subst}
 use Rattle.dt_bits.specs.declared.value.Bv.{Bv}
 use Rattle.dt_model.specs.ModelData.{ModelData, Tree}
 use Rattle.dt_walk.specs.Meaning.{EnvData, env_of, unbound, value_at}
 use Rattle.dt_manual.specs.declared.access.Sv39x4Setting.{Sv39x4Setting}
-use Rattle.dt_manual.specs.Entry.{field}
 use Rattle.dt_stage.specs.Tells.{truth}
 use Rattle.dt_stage.proofs.Values.{Has, Says, h_part, s_no, s_both, s_either, s_is}
 use Rattle.dt_sv39.specs.Law.{is_legal_satp}
 use Rattle.dt_sv39.proofs.Legal.{only_rule}
 use Rattle.dt_sv39x4.specs.Expected.{regs_of}
-use Rattle.dt_sv39x4.specs.Law.{is_legal_hgatp, is_legal, IsLegalAsManual}
+use Rattle.dt_sv39x4.specs.Law.{is_legal_hgatp, IsLegalAsManual}
 use Rattle.dt_sv39x4.specs.Shipped as shipped
 use Rattle.dt_sv39x4.specs.Shipped.{sv39x4_data}
 
@@ -36,7 +35,7 @@ kind_in s va kind user = record { is = refl }
 sv39x4_legal : IsLegalAsManual sv39x4_data
 sv39x4_legal s va kind user = (
   with_more (context s) shipped.vsatp_rule (is_legal_satp s.vsatp) _ (is_legal_hgatp s.hgatp) (s_either (s_is 4 8 (h_part 63 60 (vsatp_in s))) (s_is 64 0 (vsatp_in s)))
-    (only_rule (context s) shipped.hgatp_rule (is_legal_hgatp s.hgatp) (s_either (s_both (s_is 4 8 (h_part 63 60 (hgatp_in s))) (s_both (s_is 2 0 (h_part 59 58 (hgatp_in s))) (s_is 2 0 (h_part 1 0 (hgatp_in s))))) (s_is 64 0 (hgatp_in s)))),
+      (only_rule (context s) shipped.hgatp_rule (is_legal_hgatp s.hgatp) (s_either (s_both (s_is 4 8 (h_part 63 60 (hgatp_in s))) (s_both (s_is 2 0 (h_part 59 58 (hgatp_in s))) (s_is 2 0 (h_part 1 0 (hgatp_in s))))) (s_is 64 0 (hgatp_in s)))),
   only_rule _ shipped.access_rule (not (eqb kind 3)) (s_no (s_is 2 3 (kind_in s va kind user))),
 )
 

@@ -1,5 +1,5 @@
 -- The shipped model under a setting and an access: its registers and inputs, its tests, its faults.
-use Rattle.std.proofs.Common.{◌≡◌, ℕ, Bool, not, ◌&&◌, ◌||◌, eqb, refl, ap, ◌∙◌}
+use Rattle.std.proofs.Common.{◌≡◌, ℕ, Bool, ◌||◌, eqb, refl, ap, ◌∙◌}
 use Rattle.std.specs.Prelude.{if◌then◌else◌}
 use Rattle.dt_bits.specs.Memory.{Memory}
 use Rattle.dt_model.specs.ModelData.{Tree, var}
@@ -13,11 +13,9 @@ use Rattle.dt_manual.specs.declared.access.Kind.TheVariants.{Fetch, Load, Store}
 use Rattle.dt_manual.specs.declared.access.Access.{Access}
 use Rattle.dt_manual.specs.declared.access.Sv39x4Setting.{Sv39x4Setting}
 use Rattle.dt_manual.specs.declared.two_stages.Use.TheVariants.{Explicit, Implicit}
-use Rattle.dt_manual.specs.Entry.{R, W, X}
 use Rattle.dt_manual.specs.Levels.{page_fault, guest_fault, access_fault}
 use Rattle.dt_manual.specs.Sv39.{allows, code_of}
 use Rattle.dt_manual.specs.TwoStages.{g_stage, vs_stage}
-use Rattle.dt_stage.specs.Level.{Level}
 use Rattle.dt_stage.specs.Stage.{Forward, Tested}
 use Rattle.dt_stage.specs.Tells.{Graph, ends, tells}
 use Rattle.dt_stage.specs.Trees.{is}
@@ -25,7 +23,6 @@ use Rattle.dt_stage.proofs.Goes.{goes_branch, goes_fault}
 use Rattle.dt_stage.proofs.Values.{Has, Says, s_bit, s_no, s_both, s_either, s_is, s_choose, s_as}
 use Rattle.dt_sv39.specs.Expected.{kind_number, inputs_of}
 use Rattle.dt_sv39.proofs.Machine.{fetches, storing, allowing}
-use Rattle.dt_sv39x4.specs.declared.permission.Permission.{Permission}
 use Rattle.dt_sv39x4.specs.declared.permission.Permission.TheVariants.{Virtual, Implicit as OfRead, Explicit as OfGuest}
 use Rattle.dt_sv39x4.specs.Shipped as shipped
 use Rattle.dt_sv39x4.specs.Shipped.{sv39x4_data, level}
@@ -81,8 +78,8 @@ pub virtual_tested : (c : Sv39x4Setting) (a : Access) (x : ℕ) (cell : Tree) (g
 virtual_tested c a x cell granule leaf wide = record {
   wide = wide;
   may = λ w e h. s_both
-    (s_choose (s_user c a w) (s_bit 4 h) (s_either (s_no (s_bit 4 h)) (s_both (s_sum c a w) (s_no (s_as (s_is 2 0 (h_kind c a w)) (fetches a.kind))))))
-    (s_allows c a w _ (c.vmxr || c.hmxr) (var x) e (s_either (s_vmxr c a w) (s_hmxr c a w)) h);
+      (s_choose (s_user c a w) (s_bit 4 h) (s_either (s_no (s_bit 4 h)) (s_both (s_sum c a w) (s_no (s_as (s_is 2 0 (h_kind c a w)) (fetches a.kind))))))
+      (s_allows c a w _ (c.vmxr || c.hmxr) (var x) e (s_either (s_vmxr c a w) (s_hmxr c a w)) h);
   store = s_store c a;
 }
 

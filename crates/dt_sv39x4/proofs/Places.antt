@@ -1,5 +1,5 @@
 -- The positions of nodes, and the nodes of these names.
-use Rattle.std.proofs.Common.{◌≡◌, ℕ, ◌+◌, Bool, true, false, eqb, List, [], ◌∷◌, ◌++◌, map, refl, sym, ap, ◌∙◌}
+use Rattle.std.proofs.Common.{◌≡◌, ℕ, ◌+◌, Bool, true, false, List, [], ◌∷◌, ◌++◌, map, refl, ap, ◌∙◌}
 use Rattle.std.specs.Prelude.{◌==◌, if◌then◌else◌, codes}
 use Rattle.dt_manual.specs.declared.access.Kind.{Kind}
 use Rattle.dt_manual.specs.declared.access.Kind.TheVariants.{Fetch, Load, Store}
@@ -7,7 +7,6 @@ use Rattle.dt_manual.specs.Levels.{Part, single, vs, of_entry, of_final, Entry, 
 use Rattle.dt_manual.specs.Sv39.{code_of}
 use Rattle.dt_walk.specs.declared.run.End.{End}
 use Rattle.dt_walk.specs.declared.run.End.TheVariants.{Done, Fault}
-use Rattle.dt_walk.specs.declared.run.ReadMade.{ReadMade}
 use Rattle.dt_stage.specs.Parts.{part_made}
 use Rattle.dt_stage.specs.Tells.{Told}
 use Rattle.dt_sv39.specs.Expected.{node_named, done_name}
@@ -20,7 +19,7 @@ abbrev pub down : ℕ → ℕ → ℕ
 down at i = if i == 2 then at else (if i == 1 then at + 5 else at + 10)
 
 abbrev pub read_node : Part → ℕ → ℕ
-read_node single i = 151
+read_node single i = if i == 2 then 151 else (if i == 1 then 151 else 151)
 read_node vs i = if i == 2 then 27 else (if i == 1 then 56 else 85)
 read_node (of_entry n) i = if n == 2 then down 8 i else (if n == 1 then down 37 i else down 66 i)
 read_node of_final i = down 103 i

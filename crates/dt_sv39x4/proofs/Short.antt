@@ -1,5 +1,5 @@
 -- The VS-stage's plan is within what the builder of a stage asks for.
-use Rattle.std.proofs.Common.{◌≡◌, ℕ, ◌<◌, List, length, map, sym, ap, ◌∙◌, arith}
+use Rattle.std.proofs.Common.{◌≡◌, ◌<◌, length, sym, ap, ◌∙◌, arith}
 use Rattle.std.proofs.lemmas.List.{length-map}
 use Rattle.dt_model.specs.ModelData.{node_of}
 use Rattle.dt_stage.specs.Stage.{Shape, shape_of}

@@ -1,5 +1,5 @@
 -- Where the five stages stand in the shipped model.
-use Rattle.std.proofs.Common.{◌≡◌, ℕ, ◌+◌, [], ◌∷◌, List}
+use Rattle.std.proofs.Common.{ℕ, ◌+◌, [], ◌∷◌, List}
 use Rattle.std.specs.Prelude.{◌++◌}
 use Rattle.dt_model.specs.Faults.{steps}
 use Rattle.dt_model.specs.ModelData.{NodeData}

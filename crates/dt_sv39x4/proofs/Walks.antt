@@ -1,5 +1,5 @@
 -- The shipped model's walk is the manual's, from what the nodes of its five stages owe.
-use Rattle.std.proofs.Common.{◌≡◌, ℕ, ◌*◌, ◌^◌, ◌<◌, Bool, true, false, not, ◌&&◌, ◌||◌, eqb, List, [], ◌∷◌, ◌++◌, map, Some, refl, sym, ap, ◌∙◌, subst}
+use Rattle.std.proofs.Common.{◌≡◌, ℕ, ◌*◌, ◌^◌, ◌<◌, Bool, true, false, not, ◌&&◌, ◌||◌, eqb, List, [], ◌++◌, map, Some, refl, sym, ap, ◌∙◌, subst}
 use Rattle.std.specs.Prelude.{if◌then◌else◌, slice_get}
 use Rattle.std.proofs.lemmas.Bool.{true≢false, eqb-true}
 use Rattle.dt_bits.specs.Memory.{Memory}
@@ -26,7 +26,7 @@ use Rattle.dt_sv39.specs.Law.{is_legal_satp}
 use Rattle.dt_sv39.specs.Shipped.{is_sign_extended}
 use Rattle.dt_sv39.proofs.Walks.{nothing_more}
 use Rattle.dt_sv39x4.specs.Expected.{regs_of, both_bare, expected}
-use Rattle.dt_sv39x4.specs.Law.{is_legal_hgatp, is_legal, WalksAsManual}
+use Rattle.dt_sv39x4.specs.Law.{is_legal_hgatp, WalksAsManual}
 use Rattle.dt_sv39x4.specs.Shipped as shipped
 use Rattle.dt_sv39x4.specs.Shipped.{sv39x4_data, virtual_stage, virtual_results, guest_stage, guest_a, guest_b, guest_c, guest_final}
 use Rattle.dt_sv39x4.proofs.EntryStages.{k_vs, h_wide, all, fetch_2, fetch_1, fetch_0}

@@ -1,5 +1,5 @@
 -- The names of a walk's nodes, by its letter: v for the VS-stage; a, b, c for the G-stages of the addresses of its entries of levels 2, 1, 0; g for the G-stage of the final address.
-use Rattle.std.specs.Prelude.{ℕ, List, [], ◌∷◌, ◌++◌, codes}
+use Rattle.std.specs.Prelude.{ℕ, List, ◌++◌, codes}
 use Rattle.dt_lex.specs.declared.name.Name.{Name}
 use Rattle.dt_lex.specs.Names.{padded_name}
 use Rattle.dt_stage.specs.declared.levels.LastNames.{LastNames}

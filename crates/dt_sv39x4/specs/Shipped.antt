@@ -1,7 +1,7 @@
 -- The shipped model of two stages, as plain data.
 use Rattle.std.specs.Prelude.{ℕ, ◌+◌, List, [], ◌∷◌, ◌++◌, codes}
 use Rattle.dt_model.specs.declared.model.Named.{Named}
-use Rattle.dt_model.specs.ModelData.{ModelData, Tree, value, reg, input, var, ActData, bind, branch, done, NodeData}
+use Rattle.dt_model.specs.ModelData.{ModelData, Tree, value, reg, input, var, bind, branch, done, NodeData}
 use Rattle.dt_stage.specs.Level.{Level, node}
 use Rattle.dt_stage.specs.Stage.{Shape, stage_nodes}
 use Rattle.dt_stage.specs.Trees.{bit, part, no, both, either, is, joined, choose}
@@ -11,7 +11,6 @@ use Rattle.dt_sv39x4.specs.declared.permission.Permission.{Permission}
 use Rattle.dt_sv39x4.specs.declared.permission.Permission.TheVariants.{Virtual, Implicit, Explicit}
 use Rattle.dt_sv39x4.specs.declared.results.Address.{Address}
 use Rattle.dt_sv39x4.specs.declared.results.Address.TheVariants.{OfAccess, OfGuest}
-use Rattle.dt_sv39x4.specs.declared.results.Exits.{Exits}
 use Rattle.dt_sv39x4.specs.declared.results.Results.{Results}
 use Rattle.dt_sv39x4.specs.declared.guest.Guest.{Guest}
 

@@ -10,7 +10,7 @@ ghost use Rattle.dt_sv39x4.specs.Shipped.{wide as widened, guest_nodes as shippe
 use crate::guest::{Guest, chained, guest_nodes};
 use crate::names::{a_guest, b_guest, c_guest, g_guest, v_results, v_stage};
 use crate::permission::{Permission, level};
-use crate::positions::{ACCESS_FAULT, FINAL, G_PAGE, LED, PAGE_FAULT, STAGE, V0, V1, V2, V_PAGE};
+use crate::positions::{ACCESS_FAULT, FINAL, G_PAGE, LED, PAGE_FAULT, STAGE, V_PAGE, V0, V1, V2};
 use crate::results::{Address, Exits, Results, result_nodes, wide};
 use dt_bits::NoMemory;
 use dt_model::{Act, Expr, Node};

@@ -81,7 +81,13 @@ fn model(alloc: Global) -> Result<Model, NoMemory>
     ensures c { IfOk result (λ m. GoesByLevels (guest_stage guest_c)) }
     ensures g { IfOk result (λ m. GoesByLevels (guest_stage guest_final)) }
 {
-    let regs = vec![in alloc; named(b"vsatp", 64), named(b"hgatp", 64), named(b"sum", 1), named(b"vmxr", 1), named(b"hmxr", 1)]?;
+    let regs = vec![in alloc;
+        named(b"vsatp", 64),
+        named(b"hgatp", 64),
+        named(b"sum", 1),
+        named(b"vmxr", 1),
+        named(b"hmxr", 1),
+    ]?;
     let inputs = vec![in alloc; named(b"va", 64), named(b"kind", 2), named(b"user", 1)]?;
     let vars = vars(alloc)?;
     let context = vsatp_rule(alloc)?;
