@@ -25,6 +25,7 @@ cp "$top"/examples/t1/model t1
 for list in empty outside result image; do cp "$top/examples/t1/$list" "$list"; done
 for file in model outside mapped image; do cp "$top/examples/two_level/$file" "two_level_$file"; done
 for file in model list bare image; do cp "$top/examples/sv39/$file" "sv39_$file"; done
+for file in model image; do cp "$top/examples/sv39x4/$file" "sv39x4_$file"; done
 sed 's/^ends done/ends fault 1/' result >fault_1
 passed=0
 failed=0
@@ -501,6 +502,37 @@ row 'a walk of too many words' 3 'refused words\n' walk @sv39 sv39_image sv39_im
 row 'a model that is not shipped' 3 'refused words\n' model @sv40
 row 'a model of a file' 3 'refused words\n' model sv39_model
 row 'a model with a further word' 3 'refused words\n' model @sv39 sv39_image
+
+# Two stages.
+# sv39x4 NAME LINES EDIT: the walk of the example's image after an edit, without its first line.
+sv39x4() {
+    sed "$3" sv39x4_image >edited
+    row "$1" 0 "access 0\n$2" walk @sv39x4 edited
+}
+first='read a2 0x80000000 0x200000df\nread v2 0x80010000 0x43\n'
+second='read g2 0x80000000 0x200000df\n'
+sv39x4 'two stages' "$first${second}done d30 0x92345678 30\n" ''
+sv39x4 'an entry that is executable alone under a store' 'read a2 0x80000000 0x20000059\nfault gf23 23\n' 's/0x200000df/0x20000059/; s/80000 0x0 0x0 0x0/80000 0x0 0x0 0x1/; s/0x12345678 0x1/0x0 0x2/'
+sv39x4 'a guest physical address of 42 bits' 'fault gf21 21\n' 's/0x8000000000000010/0x0/; s/0x12345678/0x20000000000/'
+sv39x4 'N above level 0 in the second stage' 'read a2 0x80000000 0x80000000200000df\nfault gf21 21\n' 's/0x200000df/0x80000000200000df/'
+sv39x4 'a page of the second stage without U' 'read a2 0x80000000 0x200000cf\nfault gf21 21\n' 's/0x200000df/0x200000cf/'
+sv39x4 'an entry of the guest that is not valid' 'read a2 0x80000000 0x200000df\nread v2 0x80010000 0x42\nfault pf13 13\n' 's/ 0x43/ 0x42/'
+sv39x4 'the second stage alone' "${second}done d30 0x92345678 30\n" 's/0x8000000000000010/0x0/'
+sv39x4 'the first stage alone' 'read v2 0x80010000 0x43\ndone d30 0x12345678 30\n' 's/0x8000000000000010 0x8000000000080000/0x8000000000080010 0x0/'
+sv39x4 'both stages Bare' 'done dbare 0x12345678 12\n' 's/0x8000000000000010 0x8000000000080000/0x0 0x0/'
+sv39x4 'both Bare and an address of 57 bits' 'fault af5 5\n' 's/0x8000000000000010 0x8000000000080000/0x0 0x0/; s/0x12345678/0x100000000000000/'
+sv39x4 'a second stage whose root is outside table memory' 'fault af5 5\n' 's/0x8000000000080000/0x8000000000090000/'
+row 'the model of two stages' 0 "$(cat sv39x4_model)\n" model @sv39x4
+printf 'requests 1\ntables 0x80000000 0x80020000\ncontext c0\naccess a0 c0\nvia d30\nbits in va 0xffffffffffffffff 0x12345678\nend\n' >sv39x4_list
+row 'an image for two stages, judged' 0 'satisfies\n' replay @sv39x4 sv39x4_list sv39x4_image
+row 'an image for two stages, judged by the printed model' 0 'satisfies\n' replay sv39x4_model sv39x4_list sv39x4_image
+printf 'requests 1\ntables 0x80000000 0x80020000\ncontext c0\naccess a0 c0\nvia dbare\nend\n' >sv39x4_bare
+bare='image 1\ntables 0x80000000 0x80020000\ncontext 0x0 0x0 0x0 0x0 0x0\naccess 0 0x0 0x0 0x0\nend\n'
+row 'a list for two stages, solved' 0 "$bare" solve @sv39x4 sv39x4_bare 0 1
+row 'a list for two stages, solved with the printed model' 0 "$bare" solve sv39x4_model sv39x4_bare 0 1
+sed 's/0x8000000000080000/0x8000000000080001/' sv39x4_image >edited
+row 'a root of the second stage that is not legal' 1 'breaks 2\n' replay @sv39x4 sv39x4_list edited
+
 two='requests 1\ntables 0x80000000 0x81000000\ncontext c0\naccess a0 c0\nends done\nvia d12\nbits in kind 0x3 0x0\nbits in user 0x1 0x0\nrange in va 0x0 0x3fffffff\naccess a1 c0\nends done\nvia d12\nbits in kind 0x3 0x1\nbits in user 0x1 0x0\nrange in va 0x40000000 0x7fffffff\napart page a0 a1\nshare table a0 r0 a1 r0\nend\n'
 row 'a generated list of two accesses' 0 "$two" make 2
 row 'another spelling of two' 0 "$two" make 0x2

@@ -35,13 +35,13 @@ fn is_fetch(kind: Kind) -> bool
     matches!(kind, Kind::Fetch)
 }
 
-fn is_store(kind: Kind) -> bool
+pub fn is_store(kind: Kind) -> bool
     ensures { result ≡ stores kind }
 {
     matches!(kind, Kind::Store)
 }
 
-fn serves(access: Access, sum: bool, e: Pte) -> bool
+pub fn serves(access: Access, sum: bool, e: Pte) -> bool
     ensures { result ≡ serves access.kind access.user sum e.bits }
 {
     if access.user {
@@ -51,7 +51,7 @@ fn serves(access: Access, sum: bool, e: Pte) -> bool
     }
 }
 
-fn allows(kind: Kind, mxr: bool, e: Pte) -> bool
+pub fn allows(kind: Kind, mxr: bool, e: Pte) -> bool
     ensures { result ≡ allows kind mxr e.bits }
 {
     match kind {

@@ -12,11 +12,11 @@ use Rattle.dt_sv39.specs.Shipped as shipped
 use Rattle.dt_sv39.specs.Shipped.{sv39_data}
 use Rattle.dt_sv39.specs.Expected.{regs_of}
 
-is_one : (b : Bool) → (eqb (truth b).bits 1 && true) ≡ b
+pub is_one : (b : Bool) → (eqb (truth b).bits 1 && true) ≡ b
 is_one true = refl
 is_one false = refl
 
-only_rule : (e : EnvData) (t : Tree) (b : Bool) → Says e unbound t b → (eqb (value_at e unbound t).bits 1 && true) ≡ b
+pub only_rule : (e : EnvData) (t : Tree) (b : Bool) → Says e unbound t b → (eqb (value_at e unbound t).bits 1 && true) ≡ b
 only_rule e t b h = ap (λ (x : Bv). eqb x.bits 1 && true) h.is ∙ is_one b
 
 satp_in : (s : Sv39Setting) → Has (env_of sv39_data (regs_of s) []) unbound shipped.satp 64 s.satp

@@ -63,17 +63,17 @@ s_mxr s a vars = record { is = refl }
 
 -- ---- what a leaf entry permits
 
-fetches : (k : Kind) → eqb (kind_number k) 0 ≡ is_fetch k
+pub fetches : (k : Kind) → eqb (kind_number k) 0 ≡ is_fetch k
 fetches Fetch = refl
 fetches Load = refl
 fetches Store = refl
 
-storing : (k : Kind) → eqb (kind_number k) 2 ≡ is_store k
+pub storing : (k : Kind) → eqb (kind_number k) 2 ≡ is_store k
 storing Fetch = refl
 storing Load = refl
 storing Store = refl
 
-allowing : (k : Kind) (mxr : Bool) (e : ℕ) → (if eqb (kind_number k) 0 then X e else (if eqb (kind_number k) 2 then W e else (R e || mxr && X e))) ≡ allows k mxr e
+pub allowing : (k : Kind) (mxr : Bool) (e : ℕ) → (if eqb (kind_number k) 0 then X e else (if eqb (kind_number k) 2 then W e else (R e || mxr && X e))) ≡ allows k mxr e
 allowing Fetch mxr e = refl
 allowing Load mxr e = refl
 allowing Store mxr e = refl

@@ -27,10 +27,10 @@ use Rattle.dt_sv39.proofs.Machine.{env, graph, forward, stand, stage_of, h_va, h
 
 -- ---- numbers
 
-cell_sum : (x y : ℕ) → x * 2 ^ 12 + (y * 2 ^ 3 + 0) ≡ x * 4096 + y * 8
+pub cell_sum : (x y : ℕ) → x * 2 ^ 12 + (y * 2 ^ 3 + 0) ≡ x * 4096 + y * 8
 cell_sum x y = omega arith
 
-from_zero : (x n : ℕ) → x / 2 ^ 0 % n ≡ x % n
+pub from_zero : (x n : ℕ) → x / 2 ^ 0 % n ≡ x % n
 from_zero x n = ap (λ y. y % n) (whole x)
   where
     whole : (x : ℕ) → x / 1 ≡ x
@@ -50,10 +50,10 @@ n_unset : (a b c q n p m s : Bool) (r : Bool) → (if a then fails else (if b th
 n_unset a b c q true p m s r h = no_n a b c q true p m s h
 n_unset a b c q false p m s r h = refl
 
-leaf_2 : (may : ℕ → Bool) (st : Bool) (e : ℕ) → judged may st 9 2 e ≡ leaf → N e ≡ false
+pub leaf_2 : (may : ℕ → Bool) (st : Bool) (e : ℕ) → judged may st 9 2 e ≡ leaf → N e ≡ false
 leaf_2 may st e h = n_unset (not (V e) || not (R e) && W e) (not (eqb (field 60 54 e) 0) || eqb (PBMT e) 3) (not (R e) && not (X e)) (U e || (A e || (D e || (N e || (not (eqb (PBMT e) 0) || false))))) (N e) (not (may e)) (not (eqb (e / 2 ^ 10 % 2 ^ 18) 0)) (not (A e) || st && not (D e)) (not (eqb (field 13 10 e) 8)) h
 
-leaf_1 : (may : ℕ → Bool) (st : Bool) (e : ℕ) → judged may st 9 1 e ≡ leaf → N e ≡ false
+pub leaf_1 : (may : ℕ → Bool) (st : Bool) (e : ℕ) → judged may st 9 1 e ≡ leaf → N e ≡ false
 leaf_1 may st e h = n_unset (not (V e) || not (R e) && W e) (not (eqb (field 60 54 e) 0) || eqb (PBMT e) 3) (not (R e) && not (X e)) (U e || (A e || (D e || (N e || (not (eqb (PBMT e) 0) || false))))) (N e) (not (may e)) (not (eqb (e / 2 ^ 10 % 2 ^ 9) 0)) (not (A e) || st && not (D e)) (not (eqb (field 13 10 e) 8)) h
 
 -- ---- the results
@@ -123,7 +123,7 @@ stands s m a = record {
   leaf0 = λ w e h j l. ending_0 s m a e w j;
 }
 
-nothing_more : {X : Type 0} (l : List X) → l ++ [] ≡ l
+pub nothing_more : {X : Type 0} (l : List X) → l ++ [] ≡ l
 nothing_more [] = refl
 nothing_more (x ∷ xs) = ap (λ l. x ∷ l) (nothing_more xs)
 

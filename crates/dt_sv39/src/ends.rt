@@ -12,7 +12,8 @@ use dt_model::{Act, Expr, Node};
 use dt_stage::{bit, is, joined, part};
 use std::alloc::Global;
 
-fn acts(name: &[u8], act: Act) -> Node
+/// A node of this name.
+pub fn acts(name: &[u8], act: Act) -> Node
     requires { spells_name name.now ≡ true }
     ensures { node_of result ≡ named_node name.now (act_of act) }
 {
@@ -22,7 +23,8 @@ fn acts(name: &[u8], act: Act) -> Node
     }
 }
 
-fn decides(name: &[u8], test: Expr, then_to: u32, other: u32) -> Node
+/// A node of this name, which tests.
+pub fn decides(name: &[u8], test: Expr, then_to: u32, other: u32) -> Node
     requires { spells_name name.now ≡ true }
     ensures { node_of result ≡ named_node name.now (branch (tree_of test) then_to other) }
 {
@@ -80,27 +82,27 @@ pub fn results(alloc: Global) -> Result<Vec<Node>, NoMemory>
     Ok(vec![in alloc; d30, d21, napot, d16, d12]?)
 }
 
-// The names of faults by kind: both tests, and the three faults.
+/// The names of faults by kind: both tests, and the three faults.
 #[derive(Clone, Copy)]
-struct KindNames<'a> {
-    first: &'a [u8],
-    fetch: &'a [u8],
-    second: &'a [u8],
-    load: &'a [u8],
-    store: &'a [u8],
+pub struct KindNames<'a> {
+    pub first: &'a [u8],
+    pub fetch: &'a [u8],
+    pub second: &'a [u8],
+    pub load: &'a [u8],
+    pub store: &'a [u8],
 }
 
-// The codes of a fault by the kind of the access.
+/// The codes of a fault by the kind of the access.
 #[derive(Clone, Copy)]
-struct KindCodes {
-    fetch: u32,
-    load: u32,
-    store: u32,
+pub struct KindCodes {
+    pub fetch: u32,
+    pub load: u32,
+    pub store: u32,
 }
 
-// A fault by the kind of the access; its first node stands at `at`.
+/// A fault by the kind of the access; its first node stands at `at`.
 #[tactic(auto, using(crate::proofs::Joins::joins))]
-fn by_kind(
+pub fn by_kind(
     alloc: Global,
     names: KindNames,
     at: u32,

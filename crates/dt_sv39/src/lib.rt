@@ -7,6 +7,9 @@
 //! and page or the same code, at the node that is named for that end; and its reads are the manual's
 //! entries in order, each at the node of its level (`specs/Law`). Its rules hold of exactly the
 //! settings and accesses that are legal. Want of memory alone may come in the model's place.
+//!
+//! Parts of it that the model of two stages has too are public: they give exactly the names, nodes and
+//! expressions of `specs/Shipped`.
 #![tactic(auto)]
 
 mod ends;
@@ -15,4 +18,6 @@ mod positions;
 mod shipped;
 mod tables;
 
-pub use shipped::sv39_model;
+pub use ends::{KindCodes, KindNames, acts, by_kind, decides};
+pub use expressions::{entry_at, is_sign_extended, kind_is, va};
+pub use shipped::{named, sv39_model};

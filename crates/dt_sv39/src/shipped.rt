@@ -16,7 +16,8 @@ use dt_model::{Accepted, Expr, Model, Named, Node};
 use dt_stage::{either, extend, is, no};
 use std::alloc::Global;
 
-fn named(name: &[u8], width: u32) -> Named
+/// A register, input or variable of this name and width, in bits.
+pub fn named(name: &[u8], width: u32) -> Named
     requires { spells_name name.now ≡ true }
     ensures { result ≡ shipped_named name.now width }
 {

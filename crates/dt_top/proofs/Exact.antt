@@ -46,13 +46,15 @@ use Rattle.dt_top.specs.commands.Check.{IsRefusedItem, JudgingLog, CheckingList,
 use Rattle.dt_top.specs.declared.file.File.{File}
 use Rattle.dt_top.specs.declared.file.File.TheVariants as file
 use Rattle.dt_top.specs.declared.models.Shipped.{Shipped}
-use Rattle.dt_top.specs.declared.models.Shipped.TheVariants.{Sv39}
+use Rattle.dt_top.specs.declared.models.Shipped.TheVariants.{Sv39, Sv39x4}
 use Rattle.dt_top.specs.declared.status.Status.{Status}
 use Rattle.dt_top.specs.declared.status.Status.TheVariants as status
 use Rattle.dt_model.specs.Faults.{IsAccepted}
 use Rattle.dt_model.proofs.Certified.{certified_is}
 use Rattle.dt_sv39.specs.Shipped.{sv39_data}
 use Rattle.dt_sv39.proofs.Acceptance.{sv39_certified}
+use Rattle.dt_sv39x4.specs.Shipped.{sv39x4_data}
+use Rattle.dt_sv39x4.proofs.Acceptance.{sv39x4_certified}
 use Rattle.dt_top.proofs.Commanded.{found_on}
 use Rattle.dt_top.proofs.Ended.{ends_along, has_more}
 use Rattle.dt_top.proofs.Alike.{Stops, AreAlike, alike_both, not_within}
@@ -216,6 +218,7 @@ model_given files (of_file name) d h = (record { name = name; bytes = h.0 } ∷ 
 
 shipped_accepted : (s : Shipped) → IsAccepted (shipped_data s)
 shipped_accepted Sv39 = certified_is sv39_data sv39_certified
+shipped_accepted Sv39x4 = certified_is sv39x4_data sv39x4_certified
 
 model_accepted : (files : Files) (model : ModelAsked) (d : ModelData) → HasModel files model d → IsAccepted d
 model_accepted files (shipped s) d h = subst IsAccepted (sym h) (shipped_accepted s)

@@ -5,6 +5,7 @@ use Rattle.std.specs.Str.{bytes_eq}
 use Rattle.dt_model.specs.ModelData.{ModelData}
 use Rattle.dt_modeltext.specs.Read.{IsModelText}
 use Rattle.dt_sv39.specs.Shipped.{sv39_data}
+use Rattle.dt_sv39x4.specs.Shipped.{sv39x4_data}
 use Rattle.dt_top.specs.Course.{FileRead, Outcome, OnFile}
 use Rattle.dt_top.specs.Files.{limit_of}
 use Rattle.dt_request.specs.declared.list.Requests.{Requests}
@@ -14,16 +15,17 @@ use Rattle.dt_top.specs.declared.file.File.TheVariants as file
 use Rattle.dt_top.specs.declared.models.ModelWord.{ModelWord}
 use Rattle.dt_top.specs.declared.models.ModelWord.TheVariants as word
 use Rattle.dt_top.specs.declared.models.Shipped.{Shipped}
-use Rattle.dt_top.specs.declared.models.Shipped.TheVariants.{Sv39}
+use Rattle.dt_top.specs.declared.models.Shipped.TheVariants.{Sv39, Sv39x4}
 
 -- ---- shipped models
 
 -- the shipped model of a word
 abbrev pub shipped_of : List ℕ → Option Shipped
-shipped_of w = if bytes_eq w (codes "@sv39") then Some Sv39 else None
+shipped_of w = if bytes_eq w (codes "@sv39") then Some Sv39 else (if bytes_eq w (codes "@sv39x4") then Some Sv39x4 else None)
 
 abbrev pub shipped_data : Shipped → ModelData
 shipped_data Sv39 = sv39_data
+shipped_data Sv39x4 = sv39x4_data
 
 -- ---- the word for a model
 

@@ -8,6 +8,7 @@ use crate::words::is_file_name;
 use dt_bits::NoMemory;
 use dt_model::Accepted;
 use dt_sv39::sv39_model;
+use dt_sv39x4::sv39x4_model;
 use std::alloc::Global;
 
 /// A model that the program brings along.
@@ -15,6 +16,8 @@ use std::alloc::Global;
 pub enum Shipped {
     /// `@sv39`.
     Sv39,
+    /// `@sv39x4`.
+    Sv39x4,
 }
 
 impl Shipped {
@@ -24,6 +27,7 @@ impl Shipped {
     {
         match word {
             "@sv39" => Some(Shipped::Sv39),
+            "@sv39x4" => Some(Shipped::Sv39x4),
             _ => None,
         }
     }
@@ -34,6 +38,7 @@ impl Shipped {
     {
         match self {
             Shipped::Sv39 => sv39_model(alloc),
+            Shipped::Sv39x4 => sv39x4_model(alloc),
         }
     }
 }

@@ -1,0 +1,12 @@
+pub mod Joins
+pub mod Acceptance
+pub mod Places
+pub mod Machine
+pub mod Leaves
+pub mod GuestStage
+pub mod Stands
+pub mod Final
+pub mod EntryStages
+pub mod Walks
+pub mod Legal
+pub mod Short

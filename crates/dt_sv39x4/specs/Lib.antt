@@ -1,0 +1,4 @@
+pub mod Names
+pub mod Shipped
+pub mod Expected
+pub mod Law
