@@ -28,8 +28,9 @@ use dt_lex::{Piece, push_row};
 use dt_make::{can_be_made, make_requests};
 use dt_model::Accepted;
 use dt_pair::Pair;
+use dt_place::search_list;
 use dt_request::Requests;
-use dt_solve::{Outcome, Picks, search};
+use dt_solve::Outcome;
 use dt_sv39::sv39_model;
 use dt_terms::Problem;
 use std::alloc::Global;
@@ -140,6 +141,7 @@ fn searched(
     model: &Accepted,
     list: &Requests,
     problem: &Problem,
+    seed: u64,
 ) -> Result<LoadEnd, NoMemory>
     requires list { IsList (accepted_data model.now) list.now }
     requires problem { problem.now ≡ table (accepted_data model.now) list.now }
@@ -147,7 +149,7 @@ fn searched(
     ensures { IfOk result (IsLoadEnd (accepted_data model.now) list.now) }
 {
     let _ = &problem.terms;
-    match search::<Pair, Picks>(alloc, problem, MOST_SPLITS, &mut Picks)? {
+    match search_list::<Pair>(alloc, model, list, problem, MOST_SPLITS, seed)? {
         Outcome::Found(numbers) => found(alloc, model, list, numbers.as_slice()),
         Outcome::Refuted(_log) => Ok(LoadEnd::Impossible),
         Outcome::Spent(_log) => Ok(LoadEnd::Budget),
@@ -177,7 +179,7 @@ fn ended(alloc: Global, n: u64) -> Result<LoadEnd, EncodeFault>
     let model = sv39_model(alloc)?;
     let list = made_list(alloc, &model, n)?;
     let problem = encode(alloc, &model, &list)?;
-    Ok(searched(alloc, &model, &list, &problem)?)
+    Ok(searched(alloc, &model, &list, &problem, n)?)
 }
 
 // Appends a line of a word and a number.

@@ -26,8 +26,9 @@ use dt_image::print_image;
 use dt_log::print_log;
 use dt_model::Accepted;
 use dt_pair::Pair;
+use dt_place::search_list;
 use dt_request::Requests;
-use dt_solve::{Outcome, Picks, search};
+use dt_solve::Outcome;
 use dt_terms::Problem;
 use std::alloc::Global;
 
@@ -105,6 +106,7 @@ fn searched(
     list: &Requests,
     problem: &Problem,
     splits: u64,
+    seed: u64,
 ) -> Result<Reply, NoMemory>
     requires list { IsList (accepted_data model.now) list.now }
     requires problem { problem.now ≡ table (accepted_data model.now) list.now }
@@ -114,7 +116,7 @@ fn searched(
         reply.status (bytes_of reply.text)) }
 {
     let _ = &problem.terms;
-    match search::<Pair, Picks>(alloc, problem, splits, &mut Picks)? {
+    match search_list::<Pair>(alloc, model, list, problem, splits, seed)? {
         Outcome::Found(numbers) => {
             let text = image_text(alloc, model, list, numbers.as_slice())?;
             Ok(Reply::made(Status::Good, text))
@@ -133,7 +135,13 @@ fn searched(
 /// The answer to a list, with at most so many splits: the text of an image that meets it, or that of
 /// a log that refutes its problem, or that of a record of exactly so many splits. A list that is too
 /// large is refused.
-pub fn solve_reply(alloc: Global, model: &Accepted, list: &Requests, splits: u64) -> Reply
+pub fn solve_reply(
+    alloc: Global,
+    model: &Accepted,
+    list: &Requests,
+    splits: u64,
+    seed: u64,
+) -> Reply
     requires list { IsList (accepted_data model.now) list.now }
     ensures { Replies (SolvingList splits (accepted_data model.now) list.now)
         result.status (bytes_of result.text) }
@@ -142,7 +150,7 @@ pub fn solve_reply(alloc: Global, model: &Accepted, list: &Requests, splits: u64
         Ok(problem) => problem,
         Err(reply) => return reply,
     };
-    match searched(alloc, model, list, &problem, splits) {
+    match searched(alloc, model, list, &problem, splits, seed) {
         Ok(reply) => reply,
         Err(_) => Reply::no_memory(),
     }
@@ -156,7 +164,13 @@ pub fn perform<S: Shelf>(alloc: Global, shelf: &mut S, job: SolveJob<'_>) -> Rep
         result.status (bytes_of result.text) }
 {
     match model_and_list(alloc, shelf, job.model, job.requests) {
-        Ok(question) => solve_reply(alloc, &question.model, &question.list, job.splits),
+        Ok(question) => solve_reply(
+            alloc,
+            &question.model,
+            &question.list,
+            job.splits,
+            job.seed,
+        ),
         Err(reply) => reply,
     }
 }

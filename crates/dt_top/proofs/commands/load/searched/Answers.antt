@@ -12,12 +12,12 @@ pub returns-in-Refuted : goal.returns-in-Refuted
 returns-in-Refuted c =
     let d = accepted_data c.args.model.now in
     let log = c.in-Refuted._log in
-    let answer = subst (λ (o : Outcome). IsAnswer pair_ops c.args.problem.now load_splits o) c.in-Refuted.is c.in_ok-numbers.ensures.answer in
+    let answer = subst (λ (o : Outcome). IsAnswer pair_ops c.args.problem.now load_splits o) c.in-Refuted.is c.in_ok-numbers.ensures in
     refuted_end d c.args.list.now c.args.problem.now c.requires.takes (subst IsProblem c.problem.view_is c.problem.invariant.0) log.claim log.lines answer
 
 pub returns-in-Spent : goal.returns-in-Spent
 returns-in-Spent c =
     let d = accepted_data c.args.model.now in
     let log = c.in-Spent._log in
-    let answer = subst (λ (o : Outcome). IsAnswer pair_ops c.args.problem.now load_splits o) c.in-Spent.is c.in_ok-numbers.ensures.answer in
+    let answer = subst (λ (o : Outcome). IsAnswer pair_ops c.args.problem.now load_splits o) c.in-Spent.is c.in_ok-numbers.ensures in
     spent_end d c.args.list.now c.args.problem.now c.requires.problem log.claim log.lines answer

@@ -12,7 +12,7 @@ pub returns-in_ok-text-in-Refuted : goal.returns-in_ok-text-in-Refuted
 returns-in_ok-text-in-Refuted c =
     let d = accepted_data c.args.model.now in
     let log = c.in-Refuted.log in
-    let answer = subst (λ (o : Outcome). IsAnswer pair_ops c.args.problem.now c.args.splits o) c.in-Refuted.is c.in_ok-numbers.ensures.answer in
+    let answer = subst (λ (o : Outcome). IsAnswer pair_ops c.args.problem.now c.args.splits o) c.in-Refuted.is c.in_ok-numbers.ensures in
     let text = c.in_ok-text-in-Refuted.text.items in
     replies_refutation d c.args.list.now c.args.splits text c.made-in-Refuted.result
     (refuted_text d c.args.list.now c.args.problem.now c.requires.problem c.requires.takes (subst IsProblem c.problem.view_is c.problem.invariant.0) log.claim log.lines text answer
@@ -23,7 +23,7 @@ pub returns-in_ok-text-in-Spent : goal.returns-in_ok-text-in-Spent
 returns-in_ok-text-in-Spent c =
     let d = accepted_data c.args.model.now in
     let log = c.in-Spent.log in
-    let answer = subst (λ (o : Outcome). IsAnswer pair_ops c.args.problem.now c.args.splits o) c.in-Spent.is c.in_ok-numbers.ensures.answer in
+    let answer = subst (λ (o : Outcome). IsAnswer pair_ops c.args.problem.now c.args.splits o) c.in-Spent.is c.in_ok-numbers.ensures in
     let text = c.in_ok-text-in-Spent.text.items in
     replies_record d c.args.list.now c.args.splits text c.made-in-Spent.result
     (recorded_text d c.args.list.now c.args.problem.now c.requires.problem c.requires.choices c.args.splits log.claim log.lines text answer
