@@ -6,7 +6,7 @@
 //! Proved: `Draws` is the generator of its seed, and each number is made of its next two words. A
 //! layout takes memory only when it is made, and always ends.
 //!
-//! Only tested: that what is laid out meets the list.
+//! Not proved: that what is laid out meets the list.
 #![tactic(auto)]
 
 mod backward;

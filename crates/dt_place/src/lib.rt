@@ -4,7 +4,7 @@
 //! Proved: it is a proposer. It tells no aim, takes no memory when it proposes, and always ends.
 //! `search_list`, the search that tries such layouts, ends as the search of `dt_solve` does.
 //!
-//! Only tested: that its proposals are good.
+//! Not proved: that its proposals are good.
 #![tactic(auto)]
 
 mod placer;
