@@ -104,7 +104,6 @@ zeros="image 1\n${tables}context\naccess 0 0x0\nend\n"
 
 row 'the first example' 0 "$zeros" solve first_model first_requests 0 1
 row 'a list without accesses' 0 "image 1\n${tables}end\n" solve t1 empty 0 1
-row 'a read outside table memory' 0 "image 1\n${tables}context 0x0\naccess 0 0x0\nend\n" solve t1 outside 0 1
 row 'numbers in other spellings' 0 "$zeros" solve first_model first_requests 0x00 0xffffffffffffffff
 row 'the most splits' 0 "$zeros" solve first_model first_requests 18446744073709551615 1
 
@@ -123,8 +122,8 @@ row 'an empty name' 3 'refused words\n' solve '' empty 0 1
 
 row 'a list in place of a model' 4 'refused model line 1 form\n' solve empty empty 0 1
 row 'a model in place of a list' 5 'refused requests line 1 form\n' solve t1 t1 0 1
-row 'the tutorial, solved' 0 "image 1\ntables 0x1000 0x3000\ncontext 0x0\naccess 0 0x0\nend\n" \
-    solve two_level_model two_level_outside 0 1
+begins 'the tutorial, solved' 0 'image 1' solve two_level_model two_level_outside 0 1
+meets two_level_model two_level_outside
 
 # The three answers of `solve`, each tested by `replay` or `check`.
 begins 'the example of the README' 0 'image 1' solve two_level_model two_level_mapped 100 1
@@ -490,9 +489,9 @@ row 'walks in order' 0 "access 0\n$r2${r1}read r0 0x80002008 0x240000c7\ndone d1
 row 'the model of Sv39' 0 "$(cat sv39_model)\n" model @sv39
 row 'an image for Sv39, judged' 0 'satisfies\n' replay @sv39 sv39_list sv39_image
 row 'an image for Sv39, judged by the printed model' 0 'satisfies\n' replay sv39_model sv39_list sv39_image
-bare='image 1\ntables 0x80000000 0x80003000\ncontext 0x0 0x0 0x0\naccess 0 0x0 0x0 0x0\nend\n'
-row 'a list for Sv39, solved' 0 "$bare" solve @sv39 sv39_bare 0 1
-row 'a list for Sv39, solved with the printed model' 0 "$bare" solve sv39_model sv39_bare 0 1
+begins 'a list for Sv39, solved' 0 'image 1' solve @sv39 sv39_bare 0 1
+meets @sv39 sv39_bare
+row 'a list for Sv39, solved with the printed model' 0 "$(cat answer)\n" solve sv39_model sv39_bare 0 1
 sed 's/0x8000000000080000/0x9000000000080000/' sv39_image >edited
 row 'a setting that is not legal' 1 'breaks 1\n' replay @sv39 sv39_list edited
 row 'a walk without an image' 3 'refused words\n' walk @sv39
