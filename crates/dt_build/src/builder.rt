@@ -98,6 +98,7 @@ impl Builder {
         }
     }
 
+    #[tactic(auto, unfolding(dt_forms::specs::Folding::fold))]
     /// Where the operator's value over these terms stands, with constant operands folded: the node is
     /// put behind the terms only where nothing is known of it.
     pub fn fold(&mut self, op: Op, a: u32, b: u32, c: u32) -> Result<u32, NoMemory>

@@ -4,7 +4,7 @@ ghost use Rattle.dt_build.specs.Building.{claimed, placed_in};
 ghost use Rattle.dt_forms.specs.Folding.{claim_placed};
 ghost use Rattle.dt_table.specs.Kept.{touches_form, kept_form, kept_forms};
 ghost use Rattle.dt_table.specs.Spots.{only_if};
-ghost use Rattle.dt_claims.specs.Blocks.{not_above, not_below};
+ghost use Rattle.dt_claims.specs.Blocks.{not_above, not_below, within};
 ghost use Rattle.dt_claims.specs.Views.{sized, spot, access_of};
 
 use crate::places::Places;
@@ -49,6 +49,24 @@ fn not_below(
     builder.not(below)
 }
 
+// Where the term stands that tells whether the block of an address is one of those from a first to a
+// last one.
+fn within(
+    builder: &mut Builder,
+    width: u32,
+    first: u128,
+    last: u128,
+    exponent: u32,
+    address: u32,
+) -> Result<u32, NoMemory>
+    ensures at { IfOk result (λ t. t ≡ (claim_placed builder.old.terms (within width first last exponent address)).at) }
+    ensures placed { OnOk result (builder.new ≡ placed_in builder.old (claim_placed builder.old.terms (within width first last exponent address))) }
+{
+    let reached = not_above(builder, width, last, exponent, address)?;
+    let begun = not_below(builder, width, first, exponent, address)?;
+    builder.both(reached, begun)
+}
+
 // Where the term stands that tells whether the block of an address touches the range, which isn't
 // empty.
 fn touches(
@@ -61,15 +79,12 @@ fn touches(
     ensures at { IfOk result (λ t. t ≡ (claim_placed builder.old.terms (touches_form (access_of places) exponent kept address)).at) }
     ensures placed { OnOk result (builder.new ≡ placed_in builder.old (claim_placed builder.old.terms (touches_form (access_of places) exponent kept address))) }
 {
-    let width = places.address;
-    if width <= exponent {
+    if places.address <= exponent {
         return Ok(places.one);
     }
-    let last = quotient(kept.hi.saturating_sub(1), exponent);
-    let reached = not_above(builder, width, last, exponent, address)?;
     let first = quotient(kept.lo, exponent);
-    let begun = not_below(builder, width, first, exponent, address)?;
-    builder.both(reached, begun)
+    let last = quotient(kept.hi.saturating_sub(1), exponent);
+    within(builder, places.address, first, last, exponent, address)
 }
 
 // Where the term is 1, the block doesn't touch the range.

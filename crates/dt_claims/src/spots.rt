@@ -171,15 +171,9 @@ fn push_reads(
 {
     let ways = access_ways(alloc, model, requests, access)?;
     let live = live_nodes(alloc, ways.as_slice())?;
-    push_reads_among(
-        alloc,
-        ways.as_slice(),
-        live.as_slice(),
-        access,
-        model.nodes.as_slice(),
-        outs,
-        spots,
-    )
+    let nodes = model.nodes.as_slice();
+    let open = ways.as_slice();
+    push_reads_among(alloc, open, live.as_slice(), access, nodes, outs, spots)
 }
 
 /// Appends the results of the walk of an access.
@@ -196,15 +190,9 @@ pub(crate) fn push_pages(
 {
     let ways = access_ways(alloc, model, requests, access)?;
     let live = live_nodes(alloc, ways.as_slice())?;
-    push_pages_among(
-        alloc,
-        ways.as_slice(),
-        live.as_slice(),
-        access,
-        model.nodes.as_slice(),
-        outs,
-        spots,
-    )
+    let nodes = model.nodes.as_slice();
+    let open = ways.as_slice();
+    push_pages_among(alloc, open, live.as_slice(), access, nodes, outs, spots)
 }
 
 /// The reads of all walks.

@@ -269,6 +269,7 @@ place_meant : (v : Valuation) (terms : List Term) (op : Op) (a b c : ℕ) → Ar
 place_meant v terms op a b c h = record { lawful = place_before v terms op a b c h.lawful; wide = put_wide v terms (node_of terms op a b c) h; ranged = h.ranged }
 
 fold_meant : (v : Valuation) (terms : List Term) (op : Op) (a b c : ℕ) → AreValues v (fold terms op a b c).terms → AreValues v terms
+unfolding fold
 fold_meant v terms op a b c h = by_folded (folded terms op a b c) h
   where
     by_folded : (f : Folded) → AreValues v (placed_folded terms op a b c f).terms → AreValues v terms
@@ -279,6 +280,7 @@ fold_meant v terms op a b c h = by_folded (folded terms op a b c) h
 -- what is folded stands with the operator's value
 fold_value : (v : Valuation) (terms : List Term) (op : Op) (a b c : ℕ) → AreValues v (fold terms op a b c).terms
     → v (fold terms op a b c).at ≡ applied op (v (kept op 0 a)) (v (kept op 1 b)) (v (kept op 2 c))
+unfolding fold
 fold_value v terms op a b c h = by_folded (folded terms op a b c) h.lawful (folded_value v terms op a b c (fold_meant v terms op a b c h))
   where
     by_folded : (f : Folded) → IsLawful v (placed_folded terms op a b c f).terms → IsOf v (applied op (v (kept op 0 a)) (v (kept op 1 b)) (v (kept op 2 c))) f
@@ -393,6 +395,7 @@ folded_in terms op a b c w h i n f e s = by_known (known op (operand_at terms op
 
 -- what is folded stands with the operator's width, and takes one term at most
 pub fold_can : Puts fold
+unfolding fold
 fold_can terms op a b c w h i f e s =
     let p = fault_parts (are_named terms op a b c) (is_fit terms op a b c) f in
     let q = by_folded (folded terms op a b c) (folded_in terms op a b c w h i p.0 p.1 e s) in

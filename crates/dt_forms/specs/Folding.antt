@@ -92,7 +92,7 @@ placed_folded terms op a b c (Value x) = place_const terms x.width.0 x.bits
 placed_folded terms op a b c New = place terms op a b c
 
 -- where the operator's value stands over terms; a node is put behind them only where nothing is known of it
-abbrev pub fold : List Term → Op → ℕ → ℕ → ℕ → Placed
+unfoldable pub fold : List Term → Op → ℕ → ℕ → ℕ → Placed
 fold terms op a b c = placed_folded terms op a b c (folded terms op a b c)
 
 -- where a claim stands, each part folded

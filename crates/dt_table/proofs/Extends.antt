@@ -48,6 +48,7 @@ place_extends : (terms : List Term) (op : Op) (a b c : ℕ) → Extends terms (p
 place_extends terms op a b c = put_extends terms (node_of terms op a b c) refl
 
 fold_extends : (terms : List Term) (op : Op) (a b c : ℕ) → Extends terms (fold terms op a b c).terms
+unfolding fold
 fold_extends terms op a b c = by_folded (folded terms op a b c)
   where
     by_folded : (f : Folded) → Extends terms (placed_folded terms op a b c f).terms

@@ -1,4 +1,4 @@
-use Rattle.std.proofs.Common.{map, List, refl, ap, ◌∙◌, get_or, ◌+◌}
+use Rattle.std.proofs.Common.{map, List, refl, ◌∙◌, ◌+◌}
 use Rattle.std.specs.List.{flat_map}
 use Rattle.std.proofs.lemmas.List.{take_rest}
 use Rattle.dt_build.specs.Building.{claimed}
@@ -11,5 +11,5 @@ use Rattle.dt_claims.proofs.pairs.require_pairs.Goals as goal
 pub loop-n-preserved : goal.loop-n-preserved
 loop-n-preserved c =
     let rest = take_rest c.args.reads.now (c.loop-n.n + 1) in
-    turn (λ (xs : List SpotOut). pair_forms (map spot xs)) (λ (x : SpotOut) (xs : List SpotOut). flat_map (pair_if (spot x)) (map spot xs)) (λ x xs. refl) c.loop-n.builder c.require_pairs_of.new.builder _ c.args.reads.now c.loop-n.n _ c.loop-n-test.true
-    (c.in_ok-require_pairs_of.ensures ∙ ap (λ (xs : List SpotOut). claimed c.loop-n.builder (flat_map (pair_if (spot _)) (map spot xs))) rest) c.loop-n.invariant
+    turn (λ (xs : List SpotOut). pair_forms (map spot xs)) (λ (x : SpotOut) (xs : List SpotOut). flat_map (pair_if (spot x)) (map spot xs)) (λ x xs. refl) c.loop-n.builder c.require_pairs_of.new.builder _ c.args.reads.now c.loop-n.n c.index-reads-n.result c.loop-n-test.true
+    (c.in_ok-require_pairs_of.ensures ∙ (λ i. claimed c.loop-n.builder (flat_map (pair_if (spot (c.index-reads-n.is i))) (map spot (rest i))))) c.loop-n.invariant
