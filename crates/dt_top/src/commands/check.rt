@@ -27,8 +27,8 @@ use dt_edge::Shelf;
 use dt_lex::{Piece, push_row};
 use dt_log::Log;
 use dt_model::Accepted;
-use dt_sets::Triple;
 use dt_request::Requests;
+use dt_sets::Triple;
 use dt_terms::Problem;
 use std::alloc::Global;
 
