@@ -17,7 +17,7 @@ use Rattle.dt_satisfy.specs.Claims.{run_of}
 use Rattle.dt_satisfy.specs.Satisfies.{Satisfies}
 use Rattle.dt_terms.specs.Values.{IsAssignment, solves}
 use Rattle.dt_forms.specs.Meaning.{Valuation, values}
-use Rattle.dt_forms.proofs.Real.{lawful_values}
+use Rattle.dt_forms.proofs.Real.{assigned_values}
 use Rattle.dt_table.specs.declared.out.Out.{Out}
 use Rattle.dt_table.specs.Told.{told}
 use Rattle.dt_table.specs.Words.{word_at, with_word, words_read}
@@ -28,7 +28,7 @@ use Rattle.dt_table.proofs.Claimed.{seen, access_told, registers_told, HaveConte
 use Rattle.dt_table.proofs.Accepted.{ready_from}
 use Rattle.dt_table.proofs.FineTable.{table_terms}
 use Rattle.dt_table.proofs.Satisfying.{solving_from}
-use Rattle.dt_table.proofs.Theorem.{values_range, ones_of}
+use Rattle.dt_table.proofs.Theorem.{ones_of}
 use Rattle.dt_table.proofs.Whole.{to_image, to_memory}
 use Rattle.dt_encode.specs.ReadWords.{is_listed, reads_cell, ListsReads}
 
@@ -83,7 +83,7 @@ told_lists d r numbers a h list i s b =
     let v = values terms numbers in
     let t = table_terms d r a h list in
     let oss = (built d r).outs in
-    let all = solving_from v d r (ready_from d a h) list (values_range terms numbers t i) (lawful_values terms numbers t) (ones_of terms numbers (table d r).required s) in
+    let all = solving_from v d r (ready_from d a h) list (assigned_values terms numbers t i) (ones_of terms numbers (table d r).required s) in
     words_listed (reads_told v (steps d) oss) b
     ∙ reads_any v (steps d) oss b
     ∙ ap (λ (runs : List RunData). reads_cell runs b) (sym (runs_told v d r (image_told v d r).memory 0 r.accesses oss all.given.contexts all.walks))

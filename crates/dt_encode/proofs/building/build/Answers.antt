@@ -4,10 +4,11 @@ use Rattle.dt_build.specs.Building.{of_choices}
 use Rattle.dt_encode.proofs.Whole.{started, finished}
 use Rattle.dt_encode.proofs.building.build.Goals as goal
 
-pub build_accesses-requires-clause-start : goal.build_accesses-requires-clause-start
-build_accesses-requires-clause-start c =
-    started (accepted_data c.args.model.now) c.args.requests.now c.in_ok-builder.builder c.number.new.self c.number-2.new.self
-    (c.in_ok-builder.ensures ∙ ap of_choices (c.as_slice.ensures.value ∙ c.in_ok-widths.ensures.widths)) c.in_ok-_zero.ensures.placed c.in_ok-_one.ensures.placed
+pub build_accesses-requires : goal.build_accesses-requires
+build_accesses-requires c = record {
+  start = started (accepted_data c.args.model.now) c.args.requests.now c.in_ok-builder.builder c.number.new.self c.number-2.new.self
+      (c.in_ok-builder.ensures ∙ ap of_choices (c.as_slice.ensures.value ∙ c.in_ok-widths.ensures.widths)) c.in_ok-_zero.ensures.placed c.in_ok-_one.ensures.placed;
+}
 
 pub returns-clause-problem : goal.returns-clause-problem
 returns-clause-problem c =

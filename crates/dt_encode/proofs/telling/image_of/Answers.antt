@@ -39,7 +39,7 @@ invariant_of-memory c =
     let r = c.args.requests.now in
     let numbers = c.args.values.now in
     let same = image_built d r numbers c.as_slice-of_terms.result.now c.word_bytes.result (steps_of c.as_slice-nodes.result.now) (map (λ row. row.items) c.as_slice.result.now) c.from_vec.result c.in_ok-contexts.contexts c.in_ok-accesses.accesses
-    (values_are c.in_ok-encoded.encoded.problem (table d r) numbers c.in_ok-of_terms.values.items c.as_slice-of_terms.result.now c.in_ok-encoded.ensures.problem c.in_ok-of_terms.ensures c.as_slice-of_terms.ensures.value)
+    (values_are c.in_ok-encoded.encoded.problem (table d r) numbers c.in_ok-of_terms.of_terms.items c.as_slice-of_terms.result.now c.in_ok-encoded.ensures.problem c.in_ok-of_terms.ensures c.as_slice-of_terms.ensures.value)
     c.word_bytes.ensures.value
     (view_steps c.model.result.now d c.as_slice-nodes.result.now c.model.ensures.same c.as_slice-nodes.ensures)
     (rows_are c.as_slice.result.now c.in_ok-encoded.encoded.outs.items (built d r).outs c.as_slice.ensures.value c.in_ok-encoded.ensures.outs)
@@ -54,7 +54,7 @@ returns c =
     let r = c.args.requests.now in
     let numbers = c.args.values.now in
     let same = image_built d r numbers c.as_slice-of_terms.result.now c.word_bytes.result (steps_of c.as_slice-nodes.result.now) (map (λ row. row.items) c.as_slice.result.now) c.from_vec.result c.in_ok-contexts.contexts c.in_ok-accesses.accesses
-    (values_are c.in_ok-encoded.encoded.problem (table d r) numbers c.in_ok-of_terms.values.items c.as_slice-of_terms.result.now c.in_ok-encoded.ensures.problem c.in_ok-of_terms.ensures c.as_slice-of_terms.ensures.value)
+    (values_are c.in_ok-encoded.encoded.problem (table d r) numbers c.in_ok-of_terms.of_terms.items c.as_slice-of_terms.result.now c.in_ok-encoded.ensures.problem c.in_ok-of_terms.ensures c.as_slice-of_terms.ensures.value)
     c.word_bytes.ensures.value
     (view_steps c.model.result.now d c.as_slice-nodes.result.now c.model.ensures.same c.as_slice-nodes.ensures)
     (rows_are c.as_slice.result.now c.in_ok-encoded.encoded.outs.items (built d r).outs c.as_slice.ensures.value c.in_ok-encoded.ensures.outs)
