@@ -132,6 +132,12 @@ begins 'a read outside table memory' 0 'image 1' solve t1 outside 0 1
 meets t1 outside
 begins 'a result' 0 'image 1' solve t1 result 10000 1
 meets t1 result
+printf 'requests 1\n%scontext c0\naccess a0 c0\nbits reg base 0xffff 0x1000\nend\n' "${tables//'\n'/$'\n'}" >by_register
+begins 'a demand on a register' 0 'image 1' solve t1 by_register 0 1
+meets t1 by_register
+printf 'requests 2\n%skeep 0x0 0x1000\ncontext c0\naccess a0 c0\navoid d\ntake s else\nrange reg base 0x0 0x0\nend\n' "${tables//'\n'/$'\n'}" >by_sides
+begins 'demands on nodes and sides' 0 'image 1' solve t1 by_sides 0 1
+meets t1 by_sides
 demanded='bits reg base 0xffff 0x1000\nbits in x 0xff 0x2\nbits word s 0xffffffffffffffff 0x3001\n'
 sed "s/^end\$/${demanded}end/" result >demands
 row 'the only image' 0 "$(cat image)\n" solve t1 demands 0 1
@@ -523,12 +529,12 @@ sv39x4 'both Bare and an address of 57 bits' 'fault af5 5\n' 's/0x80000000000000
 sv39x4 'a second stage whose root is outside table memory' 'fault af5 5\n' 's/0x8000000000080000/0x8000000000090000/'
 row 'the model of two stages' 0 "$(cat sv39x4_model)\n" model @sv39x4
 printf 'requests 1\ntables 0x80000000 0x80020000\ncontext c0\naccess a0 c0\nvia d30\nbits in va 0xffffffffffffffff 0x12345678\nend\n' >sv39x4_list
-row 'an image for two stages, judged' 0 'satisfies\n' replay @sv39x4 sv39x4_list sv39x4_image
-row 'an image for two stages, judged by the printed model' 0 'satisfies\n' replay sv39x4_model sv39x4_list sv39x4_image
+row 'an image for two stages whose page has the tables on it' 1 'breaks 6\n' replay @sv39x4 sv39x4_list sv39x4_image
+row 'the same, judged by the printed model' 1 'breaks 6\n' replay sv39x4_model sv39x4_list sv39x4_image
 printf 'requests 1\ntables 0x80000000 0x80020000\ncontext c0\naccess a0 c0\nvia dbare\nend\n' >sv39x4_bare
-bare='image 1\ntables 0x80000000 0x80020000\ncontext 0x0 0x0 0x0 0x0 0x0\naccess 0 0x0 0x0 0x0\nend\n'
-row 'a list for two stages, solved' 0 "$bare" solve @sv39x4 sv39x4_bare 0 1
-row 'a list for two stages, solved with the printed model' 0 "$bare" solve sv39x4_model sv39x4_bare 0 1
+begins 'a list for two stages, solved' 0 'image 1' solve @sv39x4 sv39x4_bare 0 1
+meets @sv39x4 sv39x4_bare
+row 'a list for two stages, solved with the printed model' 0 "$(cat answer)\n" solve sv39x4_model sv39x4_bare 0 1
 sed 's/0x8000000000080000/0x8000000000080001/' sv39x4_image >edited
 row 'a root of the second stage that is not legal' 1 'breaks 2\n' replay @sv39x4 sv39x4_list edited
 
