@@ -132,10 +132,10 @@ begins 'a read outside table memory' 0 'image 1' solve t1 outside 0 1
 meets t1 outside
 begins 'a result' 0 'image 1' solve t1 result 10000 1
 meets t1 result
-printf 'requests 1\n%scontext c0\naccess a0 c0\nbits reg base 0xffff 0x1000\nend\n' "${tables//'\n'/$'\n'}" >by_register
+printf "requests 1\n${tables}context c0\naccess a0 c0\nbits reg base 0xffff 0x1000\nend\n" >by_register
 begins 'a demand on a register' 0 'image 1' solve t1 by_register 0 1
 meets t1 by_register
-printf 'requests 2\n%skeep 0x0 0x1000\ncontext c0\naccess a0 c0\navoid d\ntake s else\nrange reg base 0x0 0x0\nend\n' "${tables//'\n'/$'\n'}" >by_sides
+printf "requests 2\n${tables}keep 0x0 0x1000\ncontext c0\naccess a0 c0\navoid d\ntake s else\nrange reg base 0x0 0x0\nend\n" >by_sides
 begins 'demands on nodes and sides' 0 'image 1' solve t1 by_sides 0 1
 meets t1 by_sides
 demanded='bits reg base 0xffff 0x1000\nbits in x 0xff 0x2\nbits word s 0xffffffffffffffff 0x3001\n'
