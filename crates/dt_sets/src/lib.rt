@@ -14,8 +14,8 @@
 //! themselves aren't a deciding domain: a bit that is set becomes known only where numbers are listed.
 //! A step into a Triple (`narrowed_forward`, `narrowed_backward`) is that of its Pair where an operand
 //! lists no number, and between single bits it goes by which of 0 and 1 is held.
-//! Only tested: what a step costs, which `dt_box_bench` measures, and that the definitions say what is
-//! meant: `dt_domain_table` compares 1,650 answers with ones that were worked out outside.
+//! Only tested: that the definitions say what is meant; `dt_problem_cases` has checks and searches over
+//! triples.
 #![tactic(auto)]
 
 use dt_bits::Width;
