@@ -1,8 +1,8 @@
-ghost use Rattle.std.specs.Prelude.{◌≡◌, ◌==◌, ◌^◌, ◌<◌, All, length, slice_index, replicate, true, false, IsTrue, IfOk, MatchOption};
+ghost use Rattle.std.specs.Prelude.{◌≡◌, ◌==◌, ◌^◌, ◌<◌, All, length, slice_index, replicate, true, false, IsTrue, IsFalse, IfOk, MatchOption};
 ghost use Rattle.std.specs.List.{list_all};
 ghost use Rattle.dt_terms.specs.Terms.{AreTerms, bits_at, term_at, choices_of};
 ghost use Rattle.dt_terms.specs.Values.{AreFit, bv_at, values_of};
-ghost use Rattle.dt_check.specs.Evaluating.{value_among};
+ghost use Rattle.dt_check.specs.Evaluating.{value_among, IsFailing, IsFirstFailing};
 
 use crate::marks::Marks;
 use dt_bits::{Bv, NoMemory, apply};
@@ -46,7 +46,8 @@ fn value_among(terms: &[Term], values: &[u128], term: usize) -> u128
 #[tactic(auto, using(std::proofs::lemmas::List::Folds::list_all_at))]
 fn is_failing(required: &[u32], values: &[u128], place: usize) -> bool
     requires { All (λ t. t < length values.now) required.now }
-    ensures { IsTrue result → list_all (λ t. slice_index values.now t == 1) required.now ≡ false }
+    ensures failing { IsTrue result → IsFailing required.now values.now place × (list_all (λ t. slice_index values.now t == 1) required.now ≡ false) }
+    ensures other { IsFalse result → IsFailing required.now values.now place → ⊥ }
 {
     if place >= required.len() {
         return false;
@@ -58,7 +59,7 @@ fn is_failing(required: &[u32], values: &[u128], place: usize) -> bool
 #[tactic(auto, using(std::proofs::lemmas::List::Folds::list_all_at, std::proofs::lemmas::List::Folds::list_all_more))]
 fn first_failing(required: &[u32], values: &[u128]) -> Option<usize>
     requires { All (λ t. t < length values.now) required.now }
-    ensures { MatchOption result (list_all (λ t. slice_index values.now t == 1) required.now ≡ true) (λ place. list_all (λ t. slice_index values.now t == 1) required.now ≡ false) }
+    ensures { MatchOption result (list_all (λ t. slice_index values.now t == 1) required.now ≡ true) (λ place. IsFirstFailing required.now values.now place × (list_all (λ t. slice_index values.now t == 1) required.now ≡ false)) }
 {
     for place in 0..required.len() {
         if values[required[place] as usize] != 1 {
@@ -71,7 +72,8 @@ fn first_failing(required: &[u32], values: &[u128]) -> Option<usize>
 // Whether each of these values is 1. The place where one was found last that isn't is looked at first.
 fn are_ones(required: &[u32], values: &[u128], failed: &mut usize) -> bool
     requires { All (λ t. t < length values.now) required.now }
-    ensures { result ≡ list_all (λ t. slice_index values.now t == 1) required.now }
+    ensures ones { result ≡ list_all (λ t. slice_index values.now t == 1) required.now }
+    ensures failed { IsFalse result → IsFailing required.now values.now failed.new }
 {
     if is_failing(required, values, *failed) {
         return false;

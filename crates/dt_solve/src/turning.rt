@@ -12,7 +12,7 @@ ghost use Rattle.dt_check.specs.Waiting.{Stacked, CanBegin, AtSplits, IsNext, Is
 ghost use Rattle.dt_check.specs.Trying.{IsTrial};
 ghost use Rattle.dt_propagate.specs.Settling.{IsProgress, IsEnd};
 ghost use Rattle.dt_solve.specs.Roots.{IsRoot};
-ghost use Rattle.dt_solve.specs.Searching.{IsStart, IsSearching, IsAt, IsTurned};
+ghost use Rattle.dt_solve.specs.Searching.{IsStart, IsSearching, IsAt, IsTurned, changed_term};
 
 use crate::choosing::{ChoiceBit, bit_to_split};
 use crate::guiding::{Guide, Rule};
@@ -94,7 +94,9 @@ pub(crate) fn begin<D: Deciding>(
 }
 
 // The term whose cell changed, where one did.
-fn changed_term(start: Start) -> Option<u32> {
+fn changed_term(start: Start) -> Option<u32>
+    ensures { result ≡ changed_term start }
+{
     match start {
         Start::Ended(_) => None,
         Start::Changed(term) => Some(term),

@@ -21,7 +21,7 @@ returns c =
       evaluated = record { are = done.are; in_line = done.in_line; unmarked = done.unmarked };
       choices = c.evaluate_marked.ensures.choices;
       values = e;
-      solves = c.are_ones.ensures
+      solves = c.are_ones.ensures.ones
           ∙ ap (λ (xs : List ℕ). list_all (λ t. eqb (get_or xs t 0) 1) c.as_slice.result.now) (c.deref.ensures.value ∙ e)
           ∙ ap (λ (rs : List ℕ). list_all (λ t. eqb (get_or (values_of terms numbers) t 0) 1) rs) (c.as_slice.ensures ∙ ap (λ (p : ProblemData). p.required) c.problem.view_is);
     }
