@@ -9,11 +9,13 @@
 //! node, and time for each way.
 #![tactic(auto)]
 
+mod dominators;
 mod live;
 mod marks;
 mod sure;
 mod ways;
 
+pub use dominators::immediate_dominators;
 pub use live::live_nodes;
 pub use marks::{ahead_of, is_marked};
 pub use sure::sure_nodes;
