@@ -2,6 +2,7 @@
 use Rattle.std.proofs.Common.{◌≡◌, ℕ, ◌+◌, ◌-◌, ◌*◌, ◌≤◌, cond, List, [], ◌∷◌, ◌++◌, length, map, refl, ap, ◌∙◌, arith, length-append}
 use Rattle.std.specs.List.{flat_map}
 use Rattle.std.proofs.Math.Nat.{mul-le-mul, mul-le-mul_left, mul-le-mul_right, mul-add, mul_left_comm}
+use Rattle.std.proofs.lemmas.List.{length-map}
 use Rattle.std.proofs.lemmas.List.Elements.{All-from_recursion}
 use Rattle.std.proofs.lemmas.List.Recursion.{is_sum_by, is_count_by}
 use Rattle.dt_lemmas.proofs.Lists.{length_flat}
@@ -105,7 +106,7 @@ accesses_most d r a list within =
     let z = within.reads in
     omega (arith, l, s, t, u, v, w, y, z)
 
-every_most : (d : ModelData) (r : Requests) (oss : List (List Out)) → IsAccepted d → IsList d r → IsWithin d r → length oss ≡ length r.accesses → forms_size (every_claim d r oss) ≤ 1999872
+every_most : (d : ModelData) (r : Requests) (oss : List (List Out)) → IsAccepted d → IsList d r → IsWithin d r → length oss ≡ length r.accesses → forms_size (every_claim d r oss) ≤ 1803264
 every_most d r oss accepted list within same =
     let a = list_access d r in
     let A = length r.accesses in
@@ -149,10 +150,20 @@ every_most d r oss accepted list within same =
     let w = within.dones in
     omega (arith, s1, s2, s3, s4, x1, y1, x2, y2, z2, w2, v2, x3, y3, x4, y4, x5, y5, n, w)
 
-pub claims_most : (d : ModelData) (r : Requests) (oss : List (List Out)) → IsAccepted d → IsList d r → IsWithin d r → length oss ≡ length r.accesses → forms_size (claim_forms d r oss) ≤ 1999872
+pub claims_most : (d : ModelData) (r : Requests) (oss : List (List Out)) → IsAccepted d → IsList d r → IsWithin d r → length oss ≡ length r.accesses → forms_size (claim_forms d r oss) ≤ 1803264
 claims_most d r oss accepted list within same = let m = (claim_part d r oss).most in let n = every_most d r oss accepted list within same in omega (arith, m, n)
 
 -- ---- the whole
+
+-- the nodes of all accesses
+nodes_most : (d : ModelData) (r : Requests) → IsWithin d r → length r.accesses * length (steps d) ≤ 200000
+nodes_most d r within =
+    let A = length r.accesses in
+    let N = length d.nodes in
+    let same : A * length (steps d) ≡ A * N = ap (λ (n : ℕ). A * n) (length-map d.nodes (λ n. n.step)) in
+    let part : A * N ≤ A * (N + model_operators d) = mul-le-mul_left A (omega arith) in
+    let w = within.terms in
+    omega (arith, same, part, w)
 
 pub table_count : (d : ModelData) (r : Requests) → IsAccepted d → HaveArities d → IsList d r → IsWithin d r → length (table d r).terms ≤ most_terms
 table_count d r a h list within =
@@ -161,8 +172,9 @@ table_count d r a h list within =
     let y = contexts_most d r a list in
     let z = accesses_most d r a list within in
     let c = claims_most d r (built d r).outs a list within whole.count in
+    let n = nodes_most d r within in
     let m = whole.most in
-    omega (arith, x, y, z, c, m)
+    omega (arith, x, y, z, c, n, m)
 
 pub table_problem : (d : ModelData) (r : Requests) → IsAccepted d → HaveArities d → IsList d r → IsWithin d r → IsProblem (table d r)
 table_problem d r a h list within =
