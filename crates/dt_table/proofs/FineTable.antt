@@ -5,7 +5,7 @@ use Rattle.std.proofs.lemmas.List.Elements.{recursion_from_All}
 use Rattle.dt_lemmas.proofs.Lists.{each_has}
 use Rattle.dt_bits.specs.Bits.{IsWidth}
 use Rattle.dt_model.specs.ModelData.{ModelData, Tree}
-use Rattle.dt_model.specs.Faults.{IsAccepted, HaveArities, context_scope, access_scope}
+use Rattle.dt_model.specs.Faults.{IsAccepted, HaveArities, context_scope, access_scope, steps}
 use Rattle.dt_model.specs.Widths.{HasArities, tree_width}
 use Rattle.dt_model.proofs.Accepting.{reg_widths, input_widths, var_widths, accepted_word, accepted_address, context_rule_width, access_rule_width, context_arities, access_arities}
 use Rattle.dt_request.specs.declared.list.AccessWish.{AccessWish}
