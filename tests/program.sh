@@ -271,6 +271,27 @@ meets t1 odd
 { printf 'requests 1\ntables 0x1000 0x2000\ncontext c0\n'; for i in 0 1 2 3 4 5 6 7; do for j in 0 1 2 3 4 5 6 7; do echo "access a$i$j c0"; done; done; echo end; } >accesses
 row 'too many reads' 10 'too large reads 320\n' solve five accesses 100 1
 row 'too many reads and no log' 10 'too large reads 320\n' check five accesses none
+# wide_model NOTS: a model of 783 nodes; nodes and operators together are 3122 and NOTS.
+wide_model() {
+    printf 'model 1\nword 64\naddress 16\nreg base 16\nvar w 64\nnode s read w base 12 n0 f\n'
+    awk -v nots="$1" 'BEGIN {
+        for (k = 0; k < 779; k++)
+            printf "node n%d if (not (not (slice %d %d w))) %s %s\n", k, k % 64, k % 64,
+                k < 778 ? "n" k + 1 : "d", k < 777 ? "n" k + 2 : "e"
+        for (k = 0; k < nots; k++) { opening = opening "(not "; closing = closing ")" }
+        print "node f fault 1\nnode d done " opening "(slice 15 0 w)" closing " 12"
+        print "node e done (slice 15 0 w) 12\nend"
+    }'
+}
+{
+    printf 'requests 1\ntables 0x1000 0x3000\ncontext c0\n'
+    awk 'BEGIN { for (k = 0; k < 64; k++) print "access a" k " c0"; print "end" }'
+} >wide_list
+wide_model 3 >wide
+begins 'as many nodes and operators as there may be' 0 'image 1' solve wide wide_list 100 1
+meets wide wide_list
+wide_model 4 >wide
+row 'one operator more' 10 'too large terms 200064\n' solve wide wide_list 100 1
 # log NAME STATUS OUTPUT: what `check` says of the log on standard input.
 log() {
     cat >some_log
