@@ -19,7 +19,6 @@ use Rattle.dt_box.specs.Cells.{cell_at, AreCells, HoldAssignment}
 use Rattle.dt_box.specs.Changes.{knows_more}
 use Rattle.dt_box.specs.Steps.{IsStep, target, narrowed, after_step}
 use Rattle.dt_box.specs.Stillness.{HasNoEmpty, IsSettled, IsStill, IsStillAt, tells, origin}
-use Rattle.dt_box.specs.Trails.{IsKept}
 use Rattle.dt_box.specs.Neighbours.{uses, is_near}
 use Rattle.dt_box.specs.Watching.{users_of, watches_of, Covers}
 use Rattle.dt_box.proofs.Steps.{step_cells, step_narrows, step_alike, at_set}
@@ -31,6 +30,9 @@ use Rattle.dt_log.specs.declared.line.Line.{Line}
 use Rattle.dt_box.specs.Unknown.{unknown_of}
 use Rattle.dt_box.proofs.Unknown.{Keeps, unknown_le, unknown_lt}
 use Rattle.dt_propagate.specs.declared.settling.Settled.TheVariants.{Empty}
+use Rattle.dt_propagate.specs.declared.taking.Keep.{Keep}
+use Rattle.dt_propagate.specs.declared.taking.Keep.TheVariants.{Changes, Nothing}
+use Rattle.dt_propagate.specs.Keeping.{IsKeptIf, IsCourse}
 use Rattle.dt_propagate.specs.Settling.{step_line, Leads, IsLogged, IsProgress, KeepsHeld, HoldsNone}
 
 module _ (D : Type 0) (ops : DomainOps D) (terms : List Term) where
@@ -48,31 +50,36 @@ module _ (D : Type 0) (ops : DomainOps D) (terms : List Term) where
   unfolding Leads
   leads_none cells = refl
 
+  logged_none : (cells : List D) (lines : List Line) → IsLogged ops terms cells lines cells lines
+  logged_none cells lines = record { added = []; lines_are = sym (append-nil lines); leads = leads_none cells }
+
   pub progress_none : (cells : List D) (trail : List (ℕ × D)) (lines : List Line) → AreCells ops terms cells → IsProgress ops terms cells trail lines cells trail lines
   progress_none cells trail lines h = record {
     cells = h;
     kept = kept_none cells trail;
-    logged = record { added = []; lines_are = sym (append-nil lines); leads = leads_none cells };
+    logged = logged_none cells lines;
   }
 
-  pub progress_step : (a : List D) (s : List (ℕ × D)) (x : List Line) (b : List D) (t : List (ℕ × D)) (y : List Line) (step : Step) (c : List D) (u : List (ℕ × D)) (z : List Line)
-      → AreCells ops terms a → IsProgress ops terms a s x b t y → IsStep terms step → AreCells ops terms c → IsKept b t c u → c ≡ after_step ops terms step b → z ≡ y ++ step_line step ∷ []
-      → IsProgress ops terms a s x c u z
-  progress_step a s x b t y step c u z g h i n k e f = record {
-    cells = n;
-    kept = kept_more a s b t c u (h.cells.count ∙ sym g.count) h.kept k;
-    logged = record {
-      added = h.logged.added ++ step_line step ∷ [];
-      lines_are = f ∙ ap (λ l. l ++ step_line step ∷ []) h.logged.lines_are ∙ append_assoc x h.logged.added (step_line step ∷ []);
-      leads = subst (Leads ops terms (h.logged.added ++ step_line step ∷ []) a) (sym e) (leads_step h.logged.added a b step h.logged.leads i);
-    };
+  kept_if_none : (keep : Keep) (cells : List D) (trail : List (ℕ × D)) → IsKeptIf keep cells trail cells trail
+  kept_if_none Changes cells trail = kept_none cells trail
+  kept_if_none Nothing cells trail = refl
+
+  kept_if_more : (keep : Keep) (a : List D) (s : List (ℕ × D)) (b : List D) (t : List (ℕ × D)) (c : List D) (u : List (ℕ × D)) → length b ≡ length a → IsKeptIf keep a s b t → IsKeptIf keep b t c u → IsKeptIf keep a s c u
+  kept_if_more Changes a s b t c u n h k = kept_more a s b t c u n h k
+  kept_if_more Nothing a s b t c u n h k = k ∙ h
+
+  pub course_none : (keep : Keep) (cells : List D) (trail : List (ℕ × D)) (lines : List Line) → AreCells ops terms cells → IsCourse keep ops terms cells trail lines cells trail lines
+  course_none keep cells trail lines h = record {
+    cells = h;
+    kept = kept_if_none keep cells trail;
+    logged = logged_none cells lines;
   }
 
-  pub progress_more : (a : List D) (s : List (ℕ × D)) (x : List Line) (b : List D) (t : List (ℕ × D)) (y : List Line) (c : List D) (u : List (ℕ × D)) (z : List Line)
-      → AreCells ops terms a → IsProgress ops terms a s x b t y → IsProgress ops terms b t y c u z → IsProgress ops terms a s x c u z
-  progress_more a s x b t y c u z g h k = record {
+  pub course_more : (keep : Keep) (a : List D) (s : List (ℕ × D)) (x : List Line) (b : List D) (t : List (ℕ × D)) (y : List Line) (c : List D) (u : List (ℕ × D)) (z : List Line)
+      → AreCells ops terms a → IsCourse keep ops terms a s x b t y → IsCourse keep ops terms b t y c u z → IsCourse keep ops terms a s x c u z
+  course_more keep a s x b t y c u z g h k = record {
     cells = k.cells;
-    kept = kept_more a s b t c u (h.cells.count ∙ sym g.count) h.kept k.kept;
+    kept = kept_if_more keep a s b t c u (h.cells.count ∙ sym g.count) h.kept k.kept;
     logged = record {
       added = h.logged.added ++ k.logged.added;
       lines_are = k.logged.lines_are ∙ ap (λ l. l ++ k.logged.added) h.logged.lines_are ∙ append_assoc x h.logged.added k.logged.added;
@@ -80,14 +87,31 @@ module _ (D : Type 0) (ops : DomainOps D) (terms : List Term) where
     };
   }
 
-  pub progress_same : (a : List D) (s : List (ℕ × D)) (x : List Line) (b : List D) (t : List (ℕ × D)) (y : List Line) → AreCells ops terms a → b ≡ a → t ≡ s → y ≡ x → IsProgress ops terms a s x b t y
-  progress_same a s x b t y h e f g =
-      subst (λ l. IsProgress ops terms a s x b t l) (sym g) (subst (λ u. IsProgress ops terms a s x b u x) (sym f) (subst (λ c. IsProgress ops terms a s x c s x) (sym e) (progress_none a s x h)))
+  -- no step was taken
+  pub course_same : (keep : Keep) (a : List D) (s : List (ℕ × D)) (x : List Line) (b : List D) (t : List (ℕ × D)) (y : List Line) → AreCells ops terms b → b ≡ a → IsKeptIf keep a s b t → y ≡ x → IsCourse keep ops terms a s x b t y
+  course_same keep a s x b t y h e k f = record {
+    cells = h;
+    kept = k;
+    logged = subst (λ l. IsLogged ops terms a x b l) (sym f) (subst (λ c. IsLogged ops terms a x c x) (sym e) (logged_none a x));
+  }
 
-  pub progress_one : (a : List D) (s : List (ℕ × D)) (x : List Line) (step : Step) (c : List D) (u : List (ℕ × D)) (z : List Line)
-      → AreCells ops terms a → IsStep terms step → AreCells ops terms c → IsKept a s c u → c ≡ after_step ops terms step a → z ≡ x ++ step_line step ∷ []
-      → IsProgress ops terms a s x c u z
-  progress_one a s x step c u z g i n k e f = progress_step a s x a s x step c u z g (progress_none a s x g) i n k e f
+  -- one step was
+  pub course_one : (keep : Keep) (a : List D) (s : List (ℕ × D)) (x : List Line) (step : Step) (c : List D) (u : List (ℕ × D)) (z : List Line)
+      → IsStep terms step → AreCells ops terms c → IsKeptIf keep a s c u → c ≡ after_step ops terms step a → z ≡ x ++ step_line step ∷ []
+      → IsCourse keep ops terms a s x c u z
+  course_one keep a s x step c u z i n k e f = record {
+    cells = n;
+    kept = k;
+    logged = record {
+      added = step_line step ∷ [];
+      lines_are = f;
+      leads = subst (Leads ops terms (step_line step ∷ []) a) (sym e) (leads_step [] a a step (leads_none a) i);
+    };
+  }
+
+  -- where changes are kept, the course is progress
+  pub kept_course : (a : List D) (s : List (ℕ × D)) (x : List Line) (b : List D) (t : List (ℕ × D)) (y : List Line) → IsCourse Changes ops terms a s x b t y → IsProgress ops terms a s x b t y
+  kept_course a s x b t y h = record { cells = h.cells; kept = h.kept; logged = h.logged }
 
   module _ (laws : DomainLaws ops) (right : AreTerms terms) where
     keeps_step : (s : Step) (cells : List D) → AreCells ops terms cells → IsStep terms s → ops.is_empty (narrowed ops terms s cells) ≡ false → Keeps D ops terms cells (after_step ops terms s cells)
@@ -145,12 +169,12 @@ module _ (D : Type 0) (ops : DomainOps D) (terms : List Term) where
         leads_hold lines (after_step ops terms l.0 old) new numbers (step_cells D ops laws terms right l.0 old h l.2) l.3 (step_holds D ops laws terms right numbers l.0 old h l.2 a)
 
     -- so with what was logged
-    pub keeps_held : (old : List D) (s : List (ℕ × D)) (lines : List Line) (new : List D) (t : List (ℕ × D)) (more : List Line) → AreCells ops terms old → IsProgress ops terms old s lines new t more
+    pub keeps_held : (old : List D) (lines : List Line) (new : List D) (more : List Line) → AreCells ops terms old → IsLogged ops terms old lines new more
         → KeepsHeld ops terms old new
-    keeps_held old s lines new t more h g numbers a = leads_hold g.logged.added old new numbers h g.logged.leads a
+    keeps_held old lines new more h g numbers a = leads_hold g.added old new numbers h g.leads a
 
     -- and where a cell is empty then, nothing was held
-    pub holds_none : (old : List D) (s : List (ℕ × D)) (lines : List Line) (new : List D) (u : List (ℕ × D)) (more : List Line) (t : ℕ) → AreCells ops terms old → IsProgress ops terms old s lines new u more
+    pub holds_none : (old : List D) (lines : List Line) (new : List D) (more : List Line) (t : ℕ) → AreCells ops terms old → AreCells ops terms new → IsLogged ops terms old lines new more
         → t < length terms → ops.is_empty (cell_at ops new t) ≡ true → HoldsNone ops terms (Empty t) old
-    holds_none old s lines new u more t h g l e numbers a =
-        true≢false (sym e ∙ held_not_empty D ops laws terms right numbers t new g.cells l (keeps_held old s lines new u more h g numbers a))
+    holds_none old lines new more t h n g l e numbers a =
+        true≢false (sym e ∙ held_not_empty D ops laws terms right numbers t new n l (keeps_held old lines new more h g numbers a))

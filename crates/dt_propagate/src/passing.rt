@@ -5,11 +5,11 @@ ghost use Rattle.dt_box.specs.Steps.{IsNodeTerm};
 ghost use Rattle.dt_box.specs.Stillness.{HasNoEmpty};
 ghost use Rattle.dt_box.specs.Watching.{watches_of};
 ghost use Rattle.dt_propagate.specs.Marks.{HasRoom};
-ghost use Rattle.dt_propagate.specs.Settling.{IsProgress};
+ghost use Rattle.dt_propagate.specs.Keeping.{IsCourse};
 ghost use Rattle.dt_propagate.specs.Passing.{place_count, AreMarkedBut, AreMarked, IsVisited, IsPassed, StandsAt, IsLeft};
 
 use crate::marks::{Marks, positions};
-use crate::taking::{Took, take_step};
+use crate::taking::{Keep, Took, take_step};
 use dt_bits::{NoMemory, arity};
 use dt_box::{Cells, Step, Trail, Watches};
 use dt_domain::Domain;
@@ -33,6 +33,7 @@ fn visit_backward<D: Domain>(
     watches: &Watches,
     cells: &mut Cells<D>,
     trail: &mut Trail<D>,
+    keep: Keep,
     draft: &mut Draft,
     marks: &mut Marks,
     node: u32,
@@ -43,7 +44,7 @@ fn visit_backward<D: Domain>(
     requires node { node < length problem.now.terms }
     requires room { HasRoom (2 * length problem.now.terms) marks.old.bits.words.items }
     requires marked { AreMarkedBut D.ops problem.now.terms cells.old marks.old.bits.words.items (IsLeft node 0) }
-    ensures progress { IsProgress D.ops problem.now.terms cells.old trail.old draft.old.lines cells.new trail.new draft.new.lines }
+    ensures progress { IsCourse keep D.ops problem.now.terms cells.old trail.old draft.old.lines cells.new trail.new draft.new.lines }
     ensures room { OnOk result (HasRoom (2 * length problem.now.terms) marks.new.bits.words.items) }
     ensures took { IfOk result (λ took. IsVisited D.ops problem.now.terms cells.old marks.old took cells.new marks.new) }
 {
@@ -52,7 +53,7 @@ fn visit_backward<D: Domain>(
             parent: node,
             place,
         };
-        match take_step(problem, watches, cells, trail, draft, marks, step)? {
+        match take_step(problem, watches, cells, trail, keep, draft, marks, step)? {
             Took::Nothing => {}
             Took::Change => return Ok(Took::Change),
             Took::Empty(term) => return Ok(Took::Empty(term)),
@@ -67,6 +68,7 @@ fn visit_forward<D: Domain>(
     watches: &Watches,
     cells: &mut Cells<D>,
     trail: &mut Trail<D>,
+    keep: Keep,
     draft: &mut Draft,
     marks: &mut Marks,
     node: u32,
@@ -78,12 +80,12 @@ fn visit_forward<D: Domain>(
     requires is_node { IsNodeTerm (term_at problem.now.terms node) }
     requires room { HasRoom (2 * length problem.now.terms) marks.old.bits.words.items }
     requires marked { AreMarkedBut D.ops problem.now.terms cells.old marks.old.bits.words.items (StandsAt problem.now.terms node) }
-    ensures progress { IsProgress D.ops problem.now.terms cells.old trail.old draft.old.lines cells.new trail.new draft.new.lines }
+    ensures progress { IsCourse keep D.ops problem.now.terms cells.old trail.old draft.old.lines cells.new trail.new draft.new.lines }
     ensures room { OnOk result (HasRoom (2 * length problem.now.terms) marks.new.bits.words.items) }
     ensures took { IfOk result (λ took. IsVisited D.ops problem.now.terms cells.old marks.old took cells.new marks.new) }
 {
     let step = Step::Forward { term: node };
-    match take_step(problem, watches, cells, trail, draft, marks, step)? {
+    match take_step(problem, watches, cells, trail, keep, draft, marks, step)? {
         Took::Nothing => Ok(Took::Nothing),
         Took::Change => Ok(Took::Change),
         Took::Empty(term) => Ok(Took::Empty(term)),
@@ -96,6 +98,7 @@ fn visit<D: Domain>(
     watches: &Watches,
     cells: &mut Cells<D>,
     trail: &mut Trail<D>,
+    keep: Keep,
     draft: &mut Draft,
     marks: &mut Marks,
     at: u32,
@@ -106,7 +109,7 @@ fn visit<D: Domain>(
     requires at { at < 2 * length problem.now.terms }
     requires room { HasRoom (2 * length problem.now.terms) marks.old.bits.words.items }
     requires marked { AreMarkedBut D.ops problem.now.terms cells.old marks.old.bits.words.items (StandsAt problem.now.terms at) }
-    ensures progress { IsProgress D.ops problem.now.terms cells.old trail.old draft.old.lines cells.new trail.new draft.new.lines }
+    ensures progress { IsCourse keep D.ops problem.now.terms cells.old trail.old draft.old.lines cells.new trail.new draft.new.lines }
     ensures room { OnOk result (HasRoom (2 * length problem.now.terms) marks.new.bits.words.items) }
     ensures took { IfOk result (λ took. IsVisited D.ops problem.now.terms cells.old marks.old took cells.new marks.new) }
 {
@@ -114,7 +117,9 @@ fn visit<D: Domain>(
     if (at as usize) < terms.len() {
         return match terms[at as usize] {
             Term::Choice { .. } => Ok(Took::Nothing),
-            Term::Node { .. } => visit_forward(problem, watches, cells, trail, draft, marks, at),
+            Term::Node { .. } => visit_forward(
+                problem, watches, cells, trail, keep, draft, marks, at,
+            ),
         };
     }
     visit_backward(
@@ -122,6 +127,7 @@ fn visit<D: Domain>(
         watches,
         cells,
         trail,
+        keep,
         draft,
         marks,
         positions(terms.len()) - 1 - at,
@@ -135,6 +141,7 @@ pub(crate) fn pass<D: Domain>(
     watches: &Watches,
     cells: &mut Cells<D>,
     trail: &mut Trail<D>,
+    keep: Keep,
     draft: &mut Draft,
     marks: &mut Marks,
 ) -> Result<Took, NoMemory>
@@ -143,7 +150,7 @@ pub(crate) fn pass<D: Domain>(
     requires held { HasNoEmpty D.ops cells.old }
     requires room { HasRoom (2 * length problem.now.terms) marks.old.bits.words.items }
     requires marked { AreMarked D.ops problem.now.terms cells.old marks.old.bits.words.items }
-    ensures progress { IsProgress D.ops problem.now.terms cells.old trail.old draft.old.lines cells.new trail.new draft.new.lines }
+    ensures progress { IsCourse keep D.ops problem.now.terms cells.old trail.old draft.old.lines cells.new trail.new draft.new.lines }
     ensures room { OnOk result (HasRoom (2 * length problem.now.terms) marks.new.bits.words.items) }
     ensures took { IfOk result (λ took. IsPassed D.ops problem.now.terms cells.old marks.old took cells.new marks.new) }
 {
@@ -153,7 +160,7 @@ pub(crate) fn pass<D: Domain>(
     while let Some(at) = marks.bits.next_below(from, end) {
         from = at + 1;
         marks.bits.unmark(at);
-        match visit(problem, watches, cells, trail, draft, marks, at)? {
+        match visit(problem, watches, cells, trail, keep, draft, marks, at)? {
             Took::Nothing => {}
             Took::Change => changed = true,
             Took::Empty(term) => return Ok(Took::Empty(term)),

@@ -3,12 +3,13 @@ ghost use Rattle.dt_box.specs.Cells.{AreCells};
 ghost use Rattle.dt_box.specs.Stillness.{HasNoEmpty, IsSettled};
 ghost use Rattle.dt_box.specs.Watching.{Covers, watches_of};
 ghost use Rattle.dt_propagate.specs.Marks.{HasRoom};
+ghost use Rattle.dt_propagate.specs.Keeping.{IsCourse};
 ghost use Rattle.dt_propagate.specs.Passing.{AreMarked};
 ghost use Rattle.dt_propagate.specs.Settling.{IsLogged, IsProgress, IsEnd, KeepsHeld, HoldsNone};
 
 use crate::marks::Marks;
 use crate::passing::pass;
-use crate::taking::Took;
+use crate::taking::{Keep, Took};
 use dt_bits::NoMemory;
 use dt_box::{Cells, Trail, Watches};
 use dt_domain::{Deciding, Domain};
@@ -35,6 +36,7 @@ fn settle_marked<D: Domain>(
     watches: &Watches,
     cells: &mut Cells<D>,
     trail: &mut Trail<D>,
+    keep: Keep,
     draft: &mut Draft,
     marks: &mut Marks,
 ) -> Result<Settled, NoMemory>
@@ -43,14 +45,14 @@ fn settle_marked<D: Domain>(
     requires held { HasNoEmpty D.ops cells.old }
     requires room { HasRoom (2 * length problem.now.terms) marks.old.bits.words.items }
     requires marked { AreMarked D.ops problem.now.terms cells.old marks.old.bits.words.items }
-    ensures progress { IsProgress D.ops problem.now.terms cells.old trail.old draft.old.lines cells.new trail.new draft.new.lines }
+    ensures progress { IsCourse keep D.ops problem.now.terms cells.old trail.old draft.old.lines cells.new trail.new draft.new.lines }
     ensures end { IfOk result (λ end. IsEnd D.ops problem.now.terms end cells.new (IsSettled D.ops problem.now.terms cells.new)) }
     ensures keeps { KeepsHeld D.ops problem.now.terms cells.old cells.new }
     ensures none { IfOk result (λ end. HoldsNone D.ops problem.now.terms end cells.old) }
 {
     let _ = &problem.terms;
     loop {
-        match pass(problem, watches, cells, trail, draft, marks)? {
+        match pass(problem, watches, cells, trail, keep, draft, marks)? {
             Took::Nothing => return Ok(Settled::Quiet),
             Took::Change => {}
             Took::Empty(term) => return Ok(Settled::Empty(term)),
@@ -84,7 +86,15 @@ pub fn settle_from<D: Deciding>(
     for term in changed {
         marks.mark_near(problem, watches, *term);
     }
-    settle_marked(problem, watches, cells, trail, draft, &mut marks)
+    settle_marked(
+        problem,
+        watches,
+        cells,
+        trail,
+        Keep::Changes,
+        draft,
+        &mut marks,
+    )
 }
 
 /// Settles cells as `settle` does, with the watches of the problem that the caller has.
@@ -107,8 +117,17 @@ pub fn settle_with<D: Deciding>(
     let _ = &problem.terms;
     let count = problem.terms.len();
     let mut marks = Marks::new(alloc, count, u64::MAX, NARROWINGS + count as u64)?;
+    // It stays empty: before the first split there is nothing to go back to.
     let mut trail = Trail::new(alloc)?;
-    settle_marked(problem, watches, cells, &mut trail, draft, &mut marks)
+    settle_marked(
+        problem,
+        watches,
+        cells,
+        &mut trail,
+        Keep::Nothing,
+        draft,
+        &mut marks,
+    )
 }
 
 /// Takes steps until the cells are settled or one is empty: first all steps from operands to nodes,

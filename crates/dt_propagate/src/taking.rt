@@ -1,11 +1,12 @@
-ghost use Rattle.std.specs.Prelude.{◌≡◌, ◌==◌, ◌||◌, ◌<◌, ◌*◌, ◌+◌, not, length, IfOk, OnOk};
+ghost use Rattle.std.specs.Prelude.{◌≡◌, ◌==◌, ◌||◌, ◌<◌, ◌*◌, ◌+◌, not, length, IfOk, OnOk, OnErr};
 ghost use Rattle.dt_box.specs.Cells.{AreCells, cell_at};
 ghost use Rattle.dt_box.specs.Changes.{IsChange};
 ghost use Rattle.dt_box.specs.Steps.{IsStep, target, narrowed, after_step};
 ghost use Rattle.dt_box.specs.Stillness.{HasNoEmpty, tells};
 ghost use Rattle.dt_box.specs.Watching.{watches_of};
 ghost use Rattle.dt_propagate.specs.Marks.{HasRoom};
-ghost use Rattle.dt_propagate.specs.Settling.{IsProgress, step_line};
+ghost use Rattle.dt_propagate.specs.Keeping.{IsKeptIf, IsCourse};
+ghost use Rattle.dt_propagate.specs.Settling.{step_line};
 ghost use Rattle.dt_propagate.specs.Passing.{IsTaken};
 
 use crate::marks::Marks;
@@ -26,6 +27,15 @@ pub(crate) enum Took {
     Empty(u32),
 }
 
+// Where steps keep what the cells were that they change.
+#[derive(Clone, Copy, Debug, PartialEq, Eq)]
+pub(crate) enum Keep {
+    // In the trail.
+    Changes,
+    // Nowhere: the trail stays as it is.
+    Nothing,
+}
+
 // The item of a log for a step.
 fn line_of(step: Step) -> Line
     ensures { result ≡ step_line step }
@@ -36,11 +46,35 @@ fn line_of(step: Step) -> Line
     }
 }
 
+// Takes a step, and keeps in the trail what its target's cell was, if that is to be kept. Without
+// memory for that, cells and trail stay.
+fn apply<D: Domain>(
+    problem: &Problem,
+    cells: &mut Cells<D>,
+    trail: &mut Trail<D>,
+    keep: Keep,
+    step: Step,
+) -> Result<Changed, NoMemory>
+    requires cells { AreCells D.ops problem.now.terms cells.old }
+    requires step { IsStep problem.now.terms step }
+    ensures cells { OnOk result (cells.new ≡ after_step D.ops problem.now.terms step cells.old) }
+    ensures change { IfOk result (λ changed. IsChange D.ops (cell_at D.ops cells.old (target problem.now.terms step)) (narrowed D.ops problem.now.terms step cells.old) changed) }
+    ensures err { OnErr result ((cells.new ≡ cells.old) × (trail.new ≡ trail.old)) }
+    ensures are { AreCells D.ops problem.now.terms cells.new }
+    ensures kept { IsKeptIf keep cells.old trail.old cells.new trail.new }
+{
+    match keep {
+        Keep::Changes => cells.apply_kept(problem, step, trail),
+        Keep::Nothing => Ok(cells.apply(problem, step)),
+    }
+}
+
 // Takes a step, and logs it where it narrows its target's cell. Without memory nothing is changed.
 fn log_step<D: Domain>(
     problem: &Problem,
     cells: &mut Cells<D>,
     trail: &mut Trail<D>,
+    keep: Keep,
     draft: &mut Draft,
     step: Step,
 ) -> Result<Changed, NoMemory>
@@ -48,10 +82,10 @@ fn log_step<D: Domain>(
     requires step { IsStep problem.now.terms step }
     ensures cells { OnOk result (cells.new ≡ after_step D.ops problem.now.terms step cells.old) }
     ensures change { IfOk result (λ changed. IsChange D.ops (cell_at D.ops cells.old (target problem.now.terms step)) (narrowed D.ops problem.now.terms step cells.old) changed) }
-    ensures progress { IsProgress D.ops problem.now.terms cells.old trail.old draft.old.lines cells.new trail.new draft.new.lines }
+    ensures progress { IsCourse keep D.ops problem.now.terms cells.old trail.old draft.old.lines cells.new trail.new draft.new.lines }
 {
     draft.push(line_of(step))?;
-    match cells.apply_kept(problem, step, trail) {
+    match apply(problem, cells, trail, keep, step) {
         Err(e) => {
             draft.pop();
             Err(e)
@@ -83,6 +117,7 @@ pub(crate) fn take_step<D: Domain>(
     watches: &Watches,
     cells: &mut Cells<D>,
     trail: &mut Trail<D>,
+    keep: Keep,
     draft: &mut Draft,
     marks: &mut Marks,
     step: Step,
@@ -92,7 +127,7 @@ pub(crate) fn take_step<D: Domain>(
     requires held { HasNoEmpty D.ops cells.old }
     requires step { IsStep problem.now.terms step }
     requires room { HasRoom (2 * length problem.now.terms) marks.old.bits.words.items }
-    ensures progress { IsProgress D.ops problem.now.terms cells.old trail.old draft.old.lines cells.new trail.new draft.new.lines }
+    ensures progress { IsCourse keep D.ops problem.now.terms cells.old trail.old draft.old.lines cells.new trail.new draft.new.lines }
     ensures room { OnOk result (HasRoom (2 * length problem.now.terms) marks.new.bits.words.items) }
     ensures took { IfOk result (λ took. IsTaken D.ops problem.now.terms step cells.old marks.old took cells.new marks.new) }
 {
@@ -101,7 +136,7 @@ pub(crate) fn take_step<D: Domain>(
         return Ok(Took::Nothing);
     }
     let target = step.target(problem);
-    match log_step(problem, cells, trail, draft, step)? {
+    match log_step(problem, cells, trail, keep, draft, step)? {
         Changed::No => Ok(Took::Nothing),
         Changed::Empty => Ok(Took::Empty(target)),
         Changed::Narrowed => {

@@ -5,12 +5,12 @@ use Rattle.dt_propagate.specs.declared.marks.Marks.{Marks}
 use Rattle.dt_propagate.proofs.Marking.{unmarked_none}
 use Rattle.dt_propagate.specs.Marks.{is_marked}
 use Rattle.dt_propagate.specs.Passing.{IsVisited, AreMarked, cost}
-use Rattle.dt_propagate.proofs.Progress.{progress_none, progress_more}
+use Rattle.dt_propagate.proofs.Progress.{course_none, course_more}
 use Rattle.dt_propagate.proofs.passing.pass.Goals as goal
 
 pub loop-at-init : goal.loop-at-init
 loop-at-init g c = record {
-  progress = progress_none g.row.D.Denot g.D.Domain.ops c.args.problem.now.terms c.args.cells.now c.args.trail.now c.args.draft.now.lines c.requires.cells;
+  progress = course_none g.row.D.Denot g.D.Domain.ops c.args.problem.now.terms c.args.keep c.args.cells.now c.args.trail.now c.args.draft.now.lines c.requires.cells;
   held = c.requires.held;
   room = c.requires.room;
   marked = c.requires.marked;
@@ -21,12 +21,12 @@ loop-at-init g c = record {
 
 pub returns-in_err-visit-clause-progress : goal.returns-in_err-visit-clause-progress
 returns-in_err-visit-clause-progress g c =
-    progress_more g.row.D.Denot g.D.Domain.ops c.args.problem.now.terms c.args.cells.now c.args.trail.now c.args.draft.now.lines c.loop-at.cells c.loop-at.trail c.loop-at.draft.lines c.visit.new.cells c.visit.new.trail c.visit.new.draft.lines
+    course_more g.row.D.Denot g.D.Domain.ops c.args.problem.now.terms c.args.keep c.args.cells.now c.args.trail.now c.args.draft.now.lines c.loop-at.cells c.loop-at.trail c.loop-at.draft.lines c.visit.new.cells c.visit.new.trail c.visit.new.draft.lines
     c.requires.cells c.loop-at.invariant.progress c.visit.ensures.progress
 
 pub returns-in-Empty-clause-progress : goal.returns-in-Empty-clause-progress
 returns-in-Empty-clause-progress g c =
-    progress_more g.row.D.Denot g.D.Domain.ops c.args.problem.now.terms c.args.cells.now c.args.trail.now c.args.draft.now.lines c.loop-at.cells c.loop-at.trail c.loop-at.draft.lines c.visit.new.cells c.visit.new.trail c.visit.new.draft.lines
+    course_more g.row.D.Denot g.D.Domain.ops c.args.problem.now.terms c.args.keep c.args.cells.now c.args.trail.now c.args.draft.now.lines c.loop-at.cells c.loop-at.trail c.loop-at.draft.lines c.visit.new.cells c.visit.new.trail c.visit.new.draft.lines
     c.requires.cells c.loop-at.invariant.progress c.visit.ensures.progress
 
 pub loop-at-preserved-in-Nothing : goal.loop-at-preserved-in-Nothing
@@ -41,7 +41,7 @@ loop-at-preserved-in-Nothing g c =
     let w : c.visit.new.marks.bits.words.items ≡ c.unmark.new.self.words.items = ap (λ (m : Marks). m.bits.words.items) k.1 in
     let next = c.in-Some.ensures in
     record {
-      progress = progress_more g.row.D.Denot ops terms c.args.cells.now c.args.trail.now c.args.draft.now.lines cells c.loop-at.trail c.loop-at.draft.lines c.visit.new.cells c.visit.new.trail c.visit.new.draft.lines
+      progress = course_more g.row.D.Denot ops terms c.args.keep c.args.cells.now c.args.trail.now c.args.draft.now.lines cells c.loop-at.trail c.loop-at.draft.lines c.visit.new.cells c.visit.new.trail c.visit.new.draft.lines
           c.requires.cells c.loop-at.invariant.progress c.visit.ensures.progress;
       held = subst (HasNoEmpty ops) (sym k.0) c.loop-at.invariant.held;
       room = c.in_ok-visit.ensures.room;
@@ -62,7 +62,7 @@ loop-at-preserved g c =
     let less = k.cost in
     let m = c.loop-at.invariant.most in
     record {
-      progress = progress_more g.row.D.Denot ops terms c.args.cells.now c.args.trail.now c.args.draft.now.lines cells c.loop-at.trail c.loop-at.draft.lines c.visit.new.cells c.visit.new.trail c.visit.new.draft.lines
+      progress = course_more g.row.D.Denot ops terms c.args.keep c.args.cells.now c.args.trail.now c.args.draft.now.lines cells c.loop-at.trail c.loop-at.draft.lines c.visit.new.cells c.visit.new.trail c.visit.new.draft.lines
           c.requires.cells c.loop-at.invariant.progress c.visit.ensures.progress;
       held = k.held;
       room = c.in_ok-visit.ensures.room;

@@ -1,7 +1,7 @@
 use Rattle.std.proofs.Common.{◌≡◌, ◌*◌, ◌+◌, ◌-◌, ◌<◌, ◌≤◌, ℕ, length, true, false}
 use Rattle.dt_box.specs.Stillness.{HasNoEmpty}
 use Rattle.dt_propagate.specs.Marks.{is_marked, HasRoom}
-use Rattle.dt_propagate.specs.Settling.{IsProgress}
+use Rattle.dt_propagate.specs.Keeping.{IsCourse}
 use Rattle.dt_propagate.specs.Passing.{AreMarked, cost}
 use Rattle.dt_propagate.proofs.passing.pass.Given as goal
 
@@ -10,7 +10,7 @@ invariant-loop-at g l =
     let ops = g.D.Domain.ops in
     let terms = l.problem.terms in
     record {
-      progress : IsProgress ops terms l.fn.cells l.fn.trail l.fn.draft.lines l.cells l.trail l.draft.lines;
+      progress : IsCourse l.keep ops terms l.fn.cells l.fn.trail l.fn.draft.lines l.cells l.trail l.draft.lines;
       held : HasNoEmpty ops l.cells;
       room : HasRoom (2 * length terms) l.marks.bits.words.items;
       marked : AreMarked ops terms l.cells l.marks.bits.words.items;

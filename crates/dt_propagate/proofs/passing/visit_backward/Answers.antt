@@ -9,13 +9,13 @@ use Rattle.dt_box.specs.Steps.{target}
 use Rattle.dt_propagate.specs.declared.marks.Marks.{Marks}
 use Rattle.dt_propagate.specs.Marks.{HasRoom}
 use Rattle.dt_propagate.specs.Passing.{AreMarkedBut, IsTaken, IsStepTaken, IsVisited, IsLeft, place_count}
-use Rattle.dt_propagate.proofs.Progress.{progress_none, progress_more}
+use Rattle.dt_propagate.proofs.Progress.{course_none, course_more}
 use Rattle.dt_propagate.proofs.Marked.{but_taken, backward_next, backward_changed, backward_last, place_of_node}
 use Rattle.dt_propagate.proofs.passing.visit_backward.Goals as goal
 
 pub loop-place-init : goal.loop-place-init
 loop-place-init g c = record {
-  progress = progress_none g.row.D.Denot g.D.Domain.ops c.args.problem.now.terms c.args.cells.now c.args.trail.now c.args.draft.now.lines c.requires.cells;
+  progress = course_none g.row.D.Denot g.D.Domain.ops c.args.problem.now.terms c.args.keep c.args.cells.now c.args.trail.now c.args.draft.now.lines c.requires.cells;
   marked = c.requires.marked;
   same = refl;
   marks = refl;
@@ -23,17 +23,17 @@ loop-place-init g c = record {
 
 pub returns-in_err-take_step-clause-progress : goal.returns-in_err-take_step-clause-progress
 returns-in_err-take_step-clause-progress g c =
-    progress_more g.row.D.Denot g.D.Domain.ops c.args.problem.now.terms c.args.cells.now c.args.trail.now c.args.draft.now.lines c.loop-place.cells c.loop-place.trail c.loop-place.draft.lines c.take_step.new.cells c.take_step.new.trail c.take_step.new.draft.lines
+    course_more g.row.D.Denot g.D.Domain.ops c.args.problem.now.terms c.args.keep c.args.cells.now c.args.trail.now c.args.draft.now.lines c.loop-place.cells c.loop-place.trail c.loop-place.draft.lines c.take_step.new.cells c.take_step.new.trail c.take_step.new.draft.lines
     c.requires.cells c.loop-place.invariant.progress c.take_step.ensures.progress
 
 pub returns-in-Empty-clause-progress : goal.returns-in-Empty-clause-progress
 returns-in-Empty-clause-progress g c =
-    progress_more g.row.D.Denot g.D.Domain.ops c.args.problem.now.terms c.args.cells.now c.args.trail.now c.args.draft.now.lines c.loop-place.cells c.loop-place.trail c.loop-place.draft.lines c.take_step.new.cells c.take_step.new.trail c.take_step.new.draft.lines
+    course_more g.row.D.Denot g.D.Domain.ops c.args.problem.now.terms c.args.keep c.args.cells.now c.args.trail.now c.args.draft.now.lines c.loop-place.cells c.loop-place.trail c.loop-place.draft.lines c.take_step.new.cells c.take_step.new.trail c.take_step.new.draft.lines
     c.requires.cells c.loop-place.invariant.progress c.take_step.ensures.progress
 
 pub returns-in-Change-clause-progress : goal.returns-in-Change-clause-progress
 returns-in-Change-clause-progress g c =
-    progress_more g.row.D.Denot g.D.Domain.ops c.args.problem.now.terms c.args.cells.now c.args.trail.now c.args.draft.now.lines c.loop-place.cells c.loop-place.trail c.loop-place.draft.lines c.take_step.new.cells c.take_step.new.trail c.take_step.new.draft.lines
+    course_more g.row.D.Denot g.D.Domain.ops c.args.problem.now.terms c.args.keep c.args.cells.now c.args.trail.now c.args.draft.now.lines c.loop-place.cells c.loop-place.trail c.loop-place.draft.lines c.take_step.new.cells c.take_step.new.trail c.take_step.new.draft.lines
     c.requires.cells c.loop-place.invariant.progress c.take_step.ensures.progress
 
 pub loop-place-preserved : goal.loop-place-preserved
@@ -44,7 +44,7 @@ loop-place-preserved g c =
     let k = subst (λ t. IsTaken ops terms step c.loop-place.cells c.loop-place.marks t c.take_step.new.cells c.take_step.new.marks) c.in-Nothing.is c.in_ok-take_step.ensures.took in
     let i = c.loop-place.invariant in
     record {
-      progress = progress_more g.row.D.Denot ops terms c.args.cells.now c.args.trail.now c.args.draft.now.lines c.loop-place.cells c.loop-place.trail c.loop-place.draft.lines c.take_step.new.cells c.take_step.new.trail c.take_step.new.draft.lines
+      progress = course_more g.row.D.Denot ops terms c.args.keep c.args.cells.now c.args.trail.now c.args.draft.now.lines c.loop-place.cells c.loop-place.trail c.loop-place.draft.lines c.take_step.new.cells c.take_step.new.trail c.take_step.new.draft.lines
           c.requires.cells i.progress c.take_step.ensures.progress;
       marked = backward_next g.row.D.Denot ops terms c.args.node c.loop-place.place c.args.cells.now c.args.marks.now.bits.words.items (inl (subst (λ ds. tells ops terms step ds ≡ false) i.same k.2)) i.marked;
       same = k.0 ∙ i.same;

@@ -1,11 +1,15 @@
 use Rattle.std.proofs.Common.{◌≡◌, ℕ, ◌*◌, ◌+◌, ◌<◌, ◌≤◌, length, List, get_or, refl, sym, ap, ◌∙◌, subst, arith, below_more}
 use Rattle.dt_propagate.specs.Marks.{AreMarkedNear}
-use Rattle.dt_propagate.proofs.Progress.{progress_none}
+use Rattle.dt_propagate.proofs.Progress.{progress_none, kept_course}
 use Rattle.dt_propagate.proofs.Marked.{covered_marked, near_grows}
 use Rattle.dt_propagate.proofs.settling.settle_from.Goals as goal
 
 pub returns-in_err-marks-clause-progress : goal.returns-in_err-marks-clause-progress
 returns-in_err-marks-clause-progress g c = progress_none g.row.D.Denot g.D.Domain.ops c.args.problem.now.terms c.args.cells.now c.args.trail.now c.args.draft.now.lines c.requires.cells
+
+pub returns-clause-progress : goal.returns-clause-progress
+returns-clause-progress g c =
+    kept_course g.row.D.Denot g.D.Domain.ops c.args.problem.now.terms c.args.cells.now c.args.trail.now c.args.draft.now.lines c.settle_marked.new.cells c.settle_marked.new.trail c.settle_marked.new.draft.lines c.settle_marked.ensures.progress
 
 pub loop-term-preserved : goal.loop-term-preserved
 loop-term-preserved g c =

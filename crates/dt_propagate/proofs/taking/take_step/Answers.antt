@@ -6,12 +6,12 @@ use Rattle.dt_box.specs.Stillness.{tells}
 use Rattle.dt_box.specs.Cells.{cell_at}
 use Rattle.dt_propagate.specs.Marks.{AreMarkedNear}
 use Rattle.dt_propagate.specs.Passing.{IsEmptied}
-use Rattle.dt_propagate.proofs.Progress.{progress_none, target_in}
+use Rattle.dt_propagate.proofs.Progress.{course_none, target_in}
 use Rattle.dt_propagate.proofs.Marked.{same_tells, same_cells, bit_taken, narrowing_taken, only_narrows, emptied, none_left, some_left}
 use Rattle.dt_propagate.proofs.taking.take_step.Goals as goal
 
 pub returns-then-not-may_take-clause-progress : goal.returns-then-not-may_take-clause-progress
-returns-then-not-may_take-clause-progress g c = progress_none g.row.D.Denot g.D.Domain.ops c.args.problem.now.terms c.args.cells.now c.args.trail.now c.args.draft.now.lines c.requires.cells
+returns-then-not-may_take-clause-progress g c = course_none g.row.D.Denot g.D.Domain.ops c.args.problem.now.terms c.args.keep c.args.cells.now c.args.trail.now c.args.draft.now.lines c.requires.cells
 
 pub returns-then-not-may_take-clause-took : goal.returns-then-not-may_take-clause-took
 returns-then-not-may_take-clause-took g c = (refl, refl, none_left c.args.marks.now.narrowings (tells g.D.Domain.ops c.args.problem.now.terms c.args.step c.args.cells.now) (sym c.if-not-may_take.ensures))
