@@ -537,6 +537,29 @@ meets @sv39x4 sv39x4_bare
 row 'a list for two stages, solved with the printed model' 0 "$(cat answer)\n" solve sv39x4_model sv39x4_bare 0 1
 sed 's/0x8000000000080000/0x8000000000080001/' sv39x4_image >edited
 row 'a root of the second stage that is not legal' 1 'breaks 2\n' replay @sv39x4 sv39x4_list edited
+# guest_accesses N: a list of N accesses of two stages in one context, without demands.
+guest_accesses() {
+    printf 'requests 1\ntables 0x80000000 0x80100000\ncontext c0\n'
+    awk -v n="$1" 'BEGIN { for (k = 0; k < n; k++) print "access a" k " c0"; print "end" }'
+}
+guest_accesses 17 >seventeen
+begins 'seventeen accesses of two stages' 0 'image 1' solve @sv39x4 seventeen 100 1
+meets @sv39x4 seventeen
+guest_accesses 18 >eighteen
+row 'eighteen accesses of two stages' 10 'too large reads 270\n' solve @sv39x4 eighteen 100 1
+{
+    printf 'requests 1\ntables 0x80000000 0x80400000\ncontext h0\ncontext h1\n'
+    awk 'BEGIN {
+        for (k = 0; k < 8; k++) {
+            printf "access a%d h%d\nbits in kind 0x3 0x%d\nbits in user 0x1 0x0\n", k, k / 4, k % 3
+            print k == 7 ? "ends fault 21" : k % 2 ? "via d21" : "via d12"
+        }
+    }'
+    printf 'share table a0 g2 a4 g2\nshare cell a0 v2 a1 v2\nshare table a0 v0 a2 v0\n'
+    printf 'apart page a0 a1\napart page a4 a5\nend\n'
+} >two_guests
+begins 'two guests that share tables' 0 'image 1' solve @sv39x4 two_guests 10000 7
+meets @sv39x4 two_guests
 
 two='requests 1\ntables 0x80000000 0x81000000\ncontext c0\naccess a0 c0\nends done\nvia d12\nbits in kind 0x3 0x0\nbits in user 0x1 0x0\nrange in va 0x0 0x3fffffff\naccess a1 c0\nends done\nvia d12\nbits in kind 0x3 0x1\nbits in user 0x1 0x0\nrange in va 0x40000000 0x7fffffff\napart page a0 a1\nshare table a0 r0 a1 r0\nend\n'
 row 'a generated list of two accesses' 0 "$two" make 2

@@ -73,11 +73,11 @@ has() {
 
 # ---- each tool is one file of less than 300 lines, and explains itself
 
-for tool in draw export campaign texts.py walks.py; do
+for tool in draw export campaign chart texts.py walks.py; do
     [ "$(wc -l <tools/$tool)" -lt 300 ]
     count "the length of $tool" $?
 done
-for words in draw export campaign "campaign plan" "campaign run" "export header"; do
+for words in draw export campaign chart "campaign plan" "campaign run" "export header"; do
     ok "help of $words" tools/$words --help
 done
 
@@ -364,9 +364,21 @@ END
     ok 'the sum of an array' tools/campaign sum "$work/array"
 fi
 
+# ---- charts
+
+prints 'the chart of a campaign' $stored/summary.svg tools/chart $stored/summary.tsv
+edited $stored/summary.tsv '1s/judged/seen/'
+refused 'line 1: no column `judged`' tools/chart "$work/edited"
+edited $stored/summary.tsv '3s/\t[0-9]*$//'
+refused 'line 3: 8 columns, 9 are named' tools/chart "$work/edited"
+edited $stored/summary.tsv '4s/1\.5/long/'
+refused 'line 4: no run of a campaign' tools/chart "$work/edited"
+edited $stored/summary.tsv '2,$d'
+refused 'chart: -: no run' tools/chart - <"$work/edited"
+
 # ---- each refusal that the tools know was met above
 
-python3 - "$work/said" tools/draw tools/export tools/campaign tools/texts.py tools/walks.py <<'END'
+python3 - "$work/said" tools/draw tools/export tools/campaign tools/chart tools/texts.py tools/walks.py <<'END'
 import ast, re, sys
 said = open(sys.argv[1]).read()
 

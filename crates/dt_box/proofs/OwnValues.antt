@@ -23,7 +23,7 @@ use Rattle.dt_box.specs.Cells.{cell_at, AreCells}
 use Rattle.dt_box.specs.Changes.{has_news, knows_more}
 use Rattle.dt_box.specs.Steps.{IsStep, IsNodeTerm, HasPlace, operand_at, operand_cell, target, propagated_forward, propagated_backward, propagated, narrowed}
 use Rattle.dt_box.specs.Stillness.{tells, IsStillAt, origin}
-use Rattle.dt_box.specs.Fixed.{IsOnly, IsOperandNumber, Fixes}
+use Rattle.dt_box.specs.Fixed.{IsOnly, IsOperandNumber, IsOperatorValue, ComesTo, Fixes}
 use Rattle.dt_box.proofs.Steps.{fitting, fitting_at, step_alike, used_cell}
 use Rattle.dt_box.proofs.Stillness.{still_node}
 
@@ -56,6 +56,14 @@ module _ (D : Type 0) (ops : DomainOps D) (laws : DomainLaws ops) where
       (λ (e : ops.is_empty d ≡ false). e)
       (cases_Bool (ops.is_empty d))
 
+  -- it holds no other number
+  pub same_number : (d : D) (v w : Bv) → ops.IsDomain d → IsOnly ops d v → IsOnly ops d w → v ≡ w
+  same_number d v w i p q =
+      let b : v.bits ≡ w.bits = held_is d v.bits i p.full p.holds ∙ sym (held_is d w.bits i q.full q.holds) in
+      let e : v.width ≡ w.width = sym p.width ∙ q.width in
+      let at : ℕ → Width → Bv = λ n u. record { width = u; bits = n } in
+      ap (λ n. at n v.width) b ∙ ap (at w.bits) e
+
   -- no further bit is known than all
   no_more : (d e : D) → ops.IsDomain e → ops.width e ≡ ops.width d → ops.known_mask d ≡ 2 ^ bits_of ops d - 1 → knows_more ops d e ≡ false
   no_more d e i w m = none_below_from 128 (λ k. bit (ops.known_mask e) k && not (bit (ops.known_mask d) k)) (λ k _. at k (cases_lt k (bits_of ops d)))
@@ -82,6 +90,23 @@ module _ (D : Type 0) (ops : DomainOps D) (laws : DomainLaws ops) where
     -- a cell that was read
     pub cell_here : (a : ℕ) (d : D) → a < length terms → d ≡ get_or cells a d → d ≡ cell_at ops cells a
     cell_here a d l e = get_or_read cells a d (omega (arith, are.count)) e (ops.full (width 1))
+
+    one_value : (op : Op) (a b c x y : ℕ) → a < length terms → b < length terms → c < length terms → IsOperatorValue ops cells op a b c x → IsOperatorValue ops cells op a b c y → x ≡ y
+    one_value op a b c x y l m n p q =
+        sym p.value
+        ∙ value_used op p.first p.second p.third q.first q.second q.third
+        (λ u. same_number (cell_at ops cells a) p.first q.first (are.domains a l) (p.first_is.only u) (q.first_is.only u))
+        (λ u. same_number (cell_at ops cells b) p.second q.second (are.domains b m) (p.second_is.only u) (q.second_is.only u))
+        (λ u. same_number (cell_at ops cells c) p.third q.third (are.domains c n) (p.third_is.only u) (q.third_is.only u))
+        ∙ q.value
+
+    -- a node comes to one value
+    pub comes_once : (t x y : ℕ) → t < length terms → ComesTo ops cells (term_at terms t) x → ComesTo ops cells (term_at terms t) y → x ≡ y
+    comes_once t x y l = by_term (term_at terms t) refl
+      where
+        by_term : (n : Term) → term_at terms t ≡ n → ComesTo ops cells n x → ComesTo ops cells n y → x ≡ y
+        by_term (Choice w) e p q = absurd p
+        by_term (Node op a b c w) e p q = let k = placed terms t op a b c w right l e in one_value op a b c x y k.a_in k.b_in k.c_in p q
 
     module _ (t : ℕ) (op : Op) (a b c : ℕ) (w : Width) (within : t < length terms) (is : term_at terms t ≡ Node op a b c w) (x y z : Bv)
         (first : IsOperandNumber ops op 0 (cell_at ops cells a) x) (second : IsOperandNumber ops op 1 (cell_at ops cells b) y) (third : IsOperandNumber ops op 2 (cell_at ops cells c) z) where

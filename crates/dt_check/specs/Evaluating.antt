@@ -48,3 +48,15 @@ pub record IsEvaluated (terms : List Term) (e : Evaluation) : Type 0 where
 -- the numbers that the choices have as their values
 abbrev pub numbers_of : List Term → List ℕ → List ℕ
 numbers_of terms values = map (slice_index values) (choices_of terms)
+
+-- ---- required terms that fail
+
+-- the required term at this place isn't 1
+pub record IsFailing (required values : List ℕ) (place : ℕ) : Type 0 where
+  pub within : place < length required
+  pub fails : slice_index values (slice_index required place) ≢ 1
+
+-- it is the first such one
+pub record IsFirstFailing (required values : List ℕ) (place : ℕ) : Type 0 where
+  pub failing : IsFailing required values place
+  pub first : (k : ℕ) → k < place → slice_index values (slice_index required k) ≡ 1

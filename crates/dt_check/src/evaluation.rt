@@ -1,8 +1,8 @@
-ghost use Rattle.std.specs.Prelude.{◌≡◌, ◌==◌, ◌^◌, ◌<◌, All, length, slice_index, replicate, true, false, IsTrue, IfOk, MatchOption};
+ghost use Rattle.std.specs.Prelude.{◌≡◌, ◌==◌, ◌^◌, ◌<◌, All, length, slice_index, replicate, true, false, IsTrue, IsFalse, IfOk, MatchOption};
 ghost use Rattle.std.specs.List.{list_all};
 ghost use Rattle.dt_terms.specs.Terms.{AreTerms, bits_at, term_at, choices_of};
 ghost use Rattle.dt_terms.specs.Values.{AreFit, bv_at, values_of};
-ghost use Rattle.dt_check.specs.Evaluating.{value_among};
+ghost use Rattle.dt_check.specs.Evaluating.{value_among, IsFailing, IsFirstFailing};
 
 use crate::marks::Marks;
 use dt_bits::{Bv, NoMemory, apply};
@@ -46,7 +46,8 @@ fn value_among(terms: &[Term], values: &[u128], term: usize) -> u128
 #[tactic(auto, using(std::proofs::lemmas::List::Folds::list_all_at))]
 fn is_failing(required: &[u32], values: &[u128], place: usize) -> bool
     requires { All (λ t. t < length values.now) required.now }
-    ensures { IsTrue result → list_all (λ t. slice_index values.now t == 1) required.now ≡ false }
+    ensures failing { IsTrue result → IsFailing required.now values.now place × (list_all (λ t. slice_index values.now t == 1) required.now ≡ false) }
+    ensures other { IsFalse result → IsFailing required.now values.now place → ⊥ }
 {
     if place >= required.len() {
         return false;
@@ -58,7 +59,7 @@ fn is_failing(required: &[u32], values: &[u128], place: usize) -> bool
 #[tactic(auto, using(std::proofs::lemmas::List::Folds::list_all_at, std::proofs::lemmas::List::Folds::list_all_more))]
 fn first_failing(required: &[u32], values: &[u128]) -> Option<usize>
     requires { All (λ t. t < length values.now) required.now }
-    ensures { MatchOption result (list_all (λ t. slice_index values.now t == 1) required.now ≡ true) (λ place. list_all (λ t. slice_index values.now t == 1) required.now ≡ false) }
+    ensures { MatchOption result (list_all (λ t. slice_index values.now t == 1) required.now ≡ true) (λ place. IsFirstFailing required.now values.now place × (list_all (λ t. slice_index values.now t == 1) required.now ≡ false)) }
 {
     for place in 0..required.len() {
         if values[required[place] as usize] != 1 {
@@ -71,7 +72,8 @@ fn first_failing(required: &[u32], values: &[u128]) -> Option<usize>
 // Whether each of these values is 1. The place where one was found last that isn't is looked at first.
 fn are_ones(required: &[u32], values: &[u128], failed: &mut usize) -> bool
     requires { All (λ t. t < length values.now) required.now }
-    ensures { result ≡ list_all (λ t. slice_index values.now t == 1) required.now }
+    ensures ones { result ≡ list_all (λ t. slice_index values.now t == 1) required.now }
+    ensures failed { IsFalse result → IsFailing required.now values.now failed.new }
 {
     if is_failing(required, values, *failed) {
         return false;
@@ -107,12 +109,12 @@ pub struct Evaluation {
 }
 
 impl Evaluation {
-    ghost use Rattle.std.specs.Prelude.{◌≡◌, ℕ, ◌+◌, ◌≤◌, ◌<◌, ◌^◌, length, slice_index, slice_index_or, slice_set, false, IsTrue, IfOk};
+    ghost use Rattle.std.specs.Prelude.{◌≡◌, ℕ, ◌+◌, ◌≤◌, ◌<◌, ◌^◌, length, slice_index, slice_index_or, slice_set, false, IsTrue, IsFalse, IfOk};
     ghost use Rattle.dt_terms.specs.Terms.{AreTerms, bits_at, term_at, choices_of, is_choice};
     ghost use Rattle.dt_terms.specs.Values.{solves, values_of};
     ghost use Rattle.dt_box.specs.Watching.{watches_of};
     ghost use Rattle.dt_check.specs.Marks.{HasNone};
-    ghost use Rattle.dt_check.specs.Evaluating.{AreSeenTo, AreSeenToBut, IsEvaluated, numbers_of};
+    ghost use Rattle.dt_check.specs.Evaluating.{AreSeenTo, AreSeenToBut, IsEvaluated, IsFailing, numbers_of};
 
     /// The values where each choice has the number 0. It goes once over the terms.
     pub fn new(alloc: Global, problem: &Problem) -> Result<Evaluation, NoMemory>
@@ -141,6 +143,7 @@ impl Evaluation {
         ensures seen_to { AreSeenToBut problem.now.terms self.new.values.items self.new.marks.marks.items term }
         ensures values { self.new.values.items ≡ slice_set self.old.values.items term value }
         ensures marks { (t : ℕ) → t ≤ term → slice_index_or self.new.marks.marks.items t false ≡ slice_index_or self.old.marks.marks.items t false }
+        ensures failed { self.new.failed ≡ self.old.failed }
     {
         let _ = &problem.terms;
         if self.values[term as usize] != value {
@@ -159,6 +162,7 @@ impl Evaluation {
         requires seen_to { AreSeenTo problem.now.terms self.old.values.items self.old.marks.marks.items }
         ensures seen_to { AreSeenTo problem.now.terms self.new.values.items self.new.marks.marks.items }
         ensures values { self.new.values.items ≡ slice_set self.old.values.items term number }
+        ensures failed { self.new.failed ≡ self.old.failed }
     {
         self.set_value(problem, watches, term, number);
     }
@@ -172,6 +176,7 @@ impl Evaluation {
         ensures seen_to { AreSeenTo problem.now.terms self.new.values.items self.new.marks.marks.items }
         ensures before { HasNone self.new.marks.marks.items 0 (term + 1) }
         ensures choices { (t : ℕ) → IsTrue (is_choice (term_at problem.now.terms t)) → slice_index self.new.values.items t ≡ slice_index self.old.values.items t }
+        ensures failed { self.new.failed ≡ self.old.failed }
     {
         self.marks.unmark(term);
         let value = value_among(problem.terms.as_slice(), &self.values, term as usize);
@@ -184,6 +189,7 @@ impl Evaluation {
         requires seen_to { AreSeenTo problem.now.terms self.old.values.items self.old.marks.marks.items }
         ensures evaluated { IsEvaluated problem.now.terms self.new }
         ensures choices { (t : ℕ) → IsTrue (is_choice (term_at problem.now.terms t)) → slice_index self.new.values.items t ≡ slice_index self.old.values.items t }
+        ensures failed { self.new.failed ≡ self.old.failed }
     {
         let _ = &problem.terms;
         let mut from = 0;
@@ -203,6 +209,7 @@ impl Evaluation {
         ensures choices { (t : ℕ) → IsTrue (is_choice (term_at problem.now.terms t)) → slice_index self.new.values.items t ≡ slice_index self.old.values.items t }
         ensures values { self.new.values.items ≡ values_of problem.now.terms (numbers_of problem.now.terms self.old.values.items) }
         ensures solves { result ≡ solves problem.now (numbers_of problem.now.terms self.old.values.items) }
+        ensures failed { IsFalse result → IsFailing problem.now.required self.new.values.items self.new.failed }
     {
         self.evaluate_marked(problem, watches);
         are_ones(problem.required.as_slice(), &self.values, &mut self.failed)

@@ -30,7 +30,7 @@ fn first_between(marks: &[bool], from: usize, to: usize) -> Option<usize>
 }
 
 impl Marks {
-    ghost use Rattle.std.specs.Prelude.{◌≡◌, ◌<◌, ◌≤◌, All, true, false, length, slice_set, slice_index, slice_index_or, IfOk, MatchOption, replicate};
+    ghost use Rattle.std.specs.Prelude.{◌≡◌, ℕ, ◌<◌, ◌≤◌, All, true, false, length, slice_set, slice_index, slice_index_or, IfOk, MatchOption, replicate};
     ghost use Rattle.dt_check.specs.Marks.{HasNone, IsFirst, AreMarked};
 
     /// Room for so many numbers, none of which is marked.
@@ -89,7 +89,8 @@ impl Marks {
     /// Sees that no block is looked at, where nothing is marked.
     pub(crate) fn clear(&mut self)
         requires { HasNone self.old.marks.items 0 (length self.old.marks.items) }
-        ensures { self.new.marks.items ≡ self.old.marks.items }
+        ensures marks { self.new.marks.items ≡ self.old.marks.items }
+        ensures blocks { (b : ℕ) → slice_index_or self.new.blocks.items b false ≡ false }
     {
         for block in 0..self.blocks.len() {
             self.blocks[block] = false;

@@ -1,6 +1,5 @@
 pub mod Marks
 pub mod Lengths
-pub mod Models
 pub mod Parts
 pub mod Rows
 pub mod Steps

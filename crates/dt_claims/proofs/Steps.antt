@@ -14,7 +14,7 @@ use Rattle.dt_table.specs.declared.out.Out.{Out}
 use Rattle.dt_table.specs.Apart.{pages_at}
 use Rattle.dt_table.specs.Claims.{ends_only}
 use Rattle.dt_reach.specs.declared.ways.Ways.{Ways}
-use Rattle.dt_table.specs.Spots.{Spot, read_spots, page_spots}
+use Rattle.dt_table.specs.Spots.{read_spots, page_spots}
 use Rattle.dt_ways.specs.Ends.{is_end}
 use Rattle.dt_claims.specs.Steps.{page_at, read_spot, page_spot, end_forms}
 

@@ -22,13 +22,20 @@ const NO_OUT: Out = Out {
 };
 
 /// What stands for the node at a position.
-pub(crate) fn out_at(outs: &[Out], node: u32) -> Out
+pub(crate) fn out_of(outs: &[Out], node: usize) -> Out
     ensures { result ≡ out_at outs.now node }
 {
-    match outs.get(node as usize) {
+    match outs.get(node) {
         Some(out) => *out,
         None => NO_OUT,
     }
+}
+
+/// The same, of a position as requests name it.
+pub(crate) fn out_at(outs: &[Out], node: u32) -> Out
+    ensures { result ≡ out_at outs.now node }
+{
+    out_of(outs, node as usize)
 }
 
 /// The term of an edge: that of `then`, or the other one.

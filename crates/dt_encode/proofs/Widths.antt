@@ -1,5 +1,5 @@
 -- The widths of a list's choices are widths, and the choices of these widths are the list's.
-use Rattle.std.proofs.Common.{◌≡◌, ℕ, zero, suc, ◌+◌, ◌<◌, List, [], ◌∷◌, ◌++◌, length, take, get_or, map, replicate, ⊎_elim, refl, ap, ◌∙◌, arith}
+use Rattle.std.proofs.Common.{◌≡◌, ℕ, zero, suc, ◌+◌, ◌<◌, List, [], ◌∷◌, ◌++◌, length, take, get_or, map, replicate, refl, ap, ◌∙◌, arith}
 use Rattle.std.specs.List.{flat_map, AllByRecursion}
 use Rattle.std.proofs.lemmas.List.{map-append}
 use Rattle.dt_lemmas.proofs.Lists.{AllByRecursion-append, element, flat_pushed}
@@ -9,12 +9,13 @@ use Rattle.dt_model.specs.declared.model.Named.{Named}
 use Rattle.dt_model.specs.ModelData.{ModelData}
 use Rattle.dt_model.specs.Widths.{AreWidths}
 use Rattle.dt_model.specs.Faults.{IsAccepted}
-use Rattle.dt_model.proofs.Accepting.{reg_widths, input_widths, accepted_word}
+use Rattle.dt_model.proofs.Accepting.{reg_widths, input_widths}
 use Rattle.dt_request.specs.declared.list.Requests.{Requests}
 use Rattle.dt_request.specs.Choices.{read_nodes}
 use Rattle.dt_terms.specs.declared.term.Term.{Term}
 use Rattle.dt_terms.specs.declared.term.Term.TheVariants.{Choice}
 use Rattle.dt_table.specs.Table.{names_chosen, access_chosen, choices}
+use Rattle.dt_table.proofs.FineTable.{word_wide}
 use Rattle.dt_encode.specs.Widths.{name_widths, access_widths, choice_widths}
 
 -- ---- as terms
@@ -67,17 +68,11 @@ repeated_fit : {A : Type 0} (ws : List Width) (xs : List A) → Are ws → Are (
 repeated_fit ws [] h = tt
 repeated_fit {A} ws (x ∷ xs) h = AllByRecursion-append (λ (w : Width). IsWidth w.0) ws (flat_map (λ (_ : A). ws) xs) h (repeated_fit ws xs h)
 
-word_fits : (d : ModelData) → IsAccepted d → IsWidth d.word
-word_fits d a =
-    ⊎_elim (λ (h : d.word ≡ 8). (omega arith, omega arith))
-    (λ r. ⊎_elim (λ (h : d.word ≡ 16). (omega arith, omega arith)) (λ s. ⊎_elim (λ (h : d.word ≡ 32). (omega arith, omega arith)) (λ (h : d.word ≡ 64). (omega arith, omega arith)) s) r)
-    (accepted_word d a)
-
 pub widths_fit : (d : ModelData) (r : Requests) → IsAccepted d → AllByRecursion (λ w. IsWidth w.0) (choice_widths d r)
 widths_fit d r a =
     AllByRecursion-append (λ (w : Width). IsWidth w.0) (flat_map (λ _. name_widths d.regs) r.contexts) (flat_map (λ _. access_widths d) r.accesses)
     (repeated_fit (name_widths d.regs) r.contexts (names_fit d.regs (reg_widths d a)))
-    (repeated_fit (access_widths d) r.accesses (AllByRecursion-append (λ (w : Width). IsWidth w.0) (name_widths d.inputs) (replicate (read_nodes d) (width d.word)) (names_fit d.inputs (input_widths d a)) (words_fit (read_nodes d) d.word (word_fits d a))))
+    (repeated_fit (access_widths d) r.accesses (AllByRecursion-append (λ (w : Width). IsWidth w.0) (name_widths d.inputs) (replicate (read_nodes d) (width d.word)) (names_fit d.inputs (input_widths d a)) (words_fit (read_nodes d) d.word (word_wide d a))))
 
 -- ---- a list that is put once for each element
 

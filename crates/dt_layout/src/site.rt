@@ -1,4 +1,7 @@
 // Where tables, words and pages may lie, and which addresses are taken for them.
+ghost use Rattle.std.specs.Prelude.{◌≡◌};
+ghost use Rattle.dt_layout.specs.Drawing.{drawn, after_draw};
+
 use crate::Draws;
 use crate::known::{Known, low, up};
 use crate::memory::{Block, Memory};
@@ -19,7 +22,11 @@ pub struct Spot {
     pub exponent: u32,
 }
 
-fn draw(draws: &mut Draws) -> u128 {
+// The next number that is drawn, of 128 bits.
+fn draw(draws: &mut Draws) -> u128
+    ensures number { result ≡ drawn draws.old 128 }
+    ensures rest { draws.new ≡ after_draw draws.old }
+{
     draws.draw(Width(128))
 }
 

@@ -56,16 +56,22 @@ impl<'a> Placer<'a> {
 }
 
 impl<D: Domain> Proposer<D> for Placer<'_> {
-    ghost use Rattle.std.specs.Prelude.{None};
+    ghost use Rattle.std.specs.Prelude.{◌≡◌, ◌-◌, None};
+    ghost use Rattle.dt_box.specs.Cells.{AreCells};
 
     ghost aim = { λ placer. None };
 
-    fn propose(&mut self, problem: &Problem, cells: &Cells<D>, out: &mut [u128]) {
-        if self.left == 0 {
+    fn propose(&mut self, problem: &Problem, cells: &Cells<D>, out: &mut [u128])
+        requires cells { AreCells D.ops problem.now.terms cells.now }
+        // One proposal fewer is left, and none after the last.
+        ensures counted { self.new.left ≡ self.old.left - 1 }
+    {
+        let left = self.left;
+        if left == 0 {
             return;
         }
-        self.left -= 1;
         self.see(problem, cells);
         self.layout.write_numbers(out);
+        self.left = left - 1;
     }
 }

@@ -1,5 +1,5 @@
 -- Sets of positions: what adding and taking away does, and how the next one is found.
-use Rattle.std.proofs.Common.{◌≡◌, ◌≢◌, ℕ, zero, suc, ◌+◌, ◌-◌, ◌*◌, ◌/◌, ◌%◌, ◌^◌, ◌<◌, ◌≤◌, Bool, true, false, not, ◌&&◌, ◌||◌, eqb, List, [], ◌∷◌, Option, Some, None, length, replicate, get_or, set, refl, sym, ap, ◌∙◌, subst, inl, inr, ◌⊎◌, ⊎_elim, arith, get_or-set_same, get_or-set_other}
+use Rattle.std.proofs.Common.{◌≡◌, ◌≢◌, ℕ, zero, suc, ◌+◌, ◌-◌, ◌*◌, ◌/◌, ◌%◌, ◌^◌, ◌<◌, ◌≤◌, Bool, true, false, not, ◌&&◌, ◌||◌, cond, eqb, List, [], ◌∷◌, Option, Some, None, length, replicate, get_or, set, refl, sym, ap, ◌∙◌, subst, inl, inr, ◌⊎◌, ⊎_elim, arith, get_or-set_same, get_or-set_other}
 use Rattle.std.specs.Int.{bit_not, bit_at}
 use Rattle.std.specs.Int.RustNames.{bit_or}
 use Rattle.std.proofs.lemmas.Bool.{cases_eq, cases_lt, eq-eqb, eqb-true, or_right, and_parts, and_from, true≢false, false_from_ne_true}
@@ -183,6 +183,14 @@ covered_zero words tops fewer word c n z h = record {
       (ap not (false_from_ne_true (eqb (i / 64) word) (λ f. true≢false (sym e ∙ ap (λ w. bit w (i % 64)) (ap (λ k. get_or words k 0) (eqb-true (i / 64) word f) ∙ z) ∙ bit_of_zero (i % 64)))))
       (c.each i e);
 }
+
+-- what stands above words that are all the same
+pub top_is : (word top : ℕ) → top ≡ cond (eqb word 0) 0 (2 ^ 64 - 1) → (word ≡ 0) ⊎ (top ≡ 2 ^ 64 - 1)
+top_is word top e = by_test (eqb word 0) refl
+  where
+    by_test : (b : Bool) → eqb word 0 ≡ b → (word ≡ 0) ⊎ (top ≡ 2 ^ 64 - 1)
+    by_test true f = inl (eqb-true word 0 f)
+    by_test false f = inr (e ∙ ap (λ b. cond b 0 (2 ^ 64 - 1)) f)
 
 -- words that are all the same, and above them either none or all
 pub covered_new : (n m word top : ℕ) → n ≤ m * 64 → m ≤ n → (word ≡ 0) ⊎ (top ≡ 2 ^ 64 - 1) → AreCovered (replicate n word) (replicate m top)

@@ -1,4 +1,4 @@
-ghost use Rattle.std.specs.Prelude.{◌≡◌, ◌==◌, ◌||◌, ◌&&◌, ◌⊎◌, ◌+◌, ◌-◌, ◌*◌, ◌/◌, ◌%◌, ◌<◌, ◌≤◌, ◌^◌, ℕ, Bool, true, false, not, length, slice_index, IfOk, IfSome, MatchOption};
+ghost use Rattle.std.specs.Prelude.{◌≡◌, ◌==◌, ◌||◌, ◌&&◌, ◌+◌, ◌-◌, ◌*◌, ◌/◌, ◌%◌, ◌<◌, ◌≤◌, ◌^◌, ℕ, Bool, true, false, not, length, slice_index, IfOk, IfSome, MatchOption, if◌then◌else◌};
 ghost use Rattle.dt_bits.specs.Bits.{bit};
 ghost use Rattle.dt_propagate.specs.Marks.{is_marked, AreCovered, HasRoom, IsNextMark, IsNextBelow};
 
@@ -28,7 +28,7 @@ fn next_in(word: u64, k: u32) -> Option<u32>
 
 // What stands above words that are all this one: all bits, unless the word is 0.
 fn top_of(word: u64) -> u64
-    ensures { (word ≡ 0) ⊎ (result ≡ 2 ^ 64 - 1) }
+    ensures { result ≡ (if word == 0 then 0 else 2 ^ 64 - 1) }
 {
     if word == 0 { 0 } else { u64::MAX }
 }

@@ -1,3 +1,4 @@
+pub mod Dominating
 pub mod Gone
 pub mod Lives
 pub mod Furthest

@@ -1,2 +1,3 @@
+pub mod Dominating
 pub mod Furthest
 pub mod Reach

@@ -25,7 +25,10 @@ use Rattle.dt_check.proofs.Drafts.{draft_refutes, draft_records}
 use Rattle.dt_check.proofs.Bound.{root_required, record_bound, record_bound_all}
 use Rattle.dt_propagate.specs.Settling.{IsLogged}
 use Rattle.dt_propagate.proofs.Progress.{leads_hold}
-use Rattle.dt_solve.specs.Searching.{FollowsAt, IsRead, IsSearching}
+use Rattle.dt_solve.specs.Searching.{FollowsAt, IsRead, IsSearching, IsTurned, left}
+use Rattle.dt_solve.specs.declared.turning.Search.{Search}
+use Rattle.dt_solve.specs.declared.turning.Turned.{Turned}
+use Rattle.dt_solve.specs.declared.turning.Turned.TheVariants.{More, Found, Refuted, Spent}
 use Rattle.dt_solve.specs.Outcomes.{IsRefuted, IsSpent}
 use Rattle.dt_solve.specs.Untried.{AreUntried, without_tries}
 use Rattle.dt_solve.proofs.Untried.{bare, lines_bare, refutes_bare, bare_is_tree, are_untried}
@@ -95,3 +98,11 @@ module _ (D : Type 0) (ops : DomainOps D) (p : ProblemData) (limit : ℕ) (aim :
       → (numbers : List ℕ) → aim ≡ Some numbers → length numbers ≡ length (choices_of p.terms) → (tree : Tree) → StandsFor log tree → Follows ops p numbers tree
   follows_log lines log n o e h numbers a l tree s =
       subst (AllByRecursion (FollowsAt ops p.terms numbers)) (ap (λ ls. trials_along ops p.terms ls (at_first ops p)) (sym e ∙ sym s) ∙ along_tree D ops p tree (root_cells ops p) [] 0 false) (h.follow numbers a l)
+
+-- what a turn leads to goes by how much was left to do
+pub turned_from : (D : Type 0) (ops : DomainOps D) (p : ProblemData) (limit : ℕ) (aim : Option (List ℕ)) (turned : Turned) (old older new : Search D) (numbers : List ℕ)
+    → left limit old.splits old.pending.items ≡ left limit older.splits older.pending.items → IsTurned ops p limit aim old turned new numbers → IsTurned ops p limit aim older turned new numbers
+turned_from D ops p limit aim More old older new numbers e h = (h.0, subst (λ n. left limit new.splits new.pending.items < n) e h.1)
+turned_from D ops p limit aim Found old older new numbers e h = h
+turned_from D ops p limit aim Refuted old older new numbers e h = h
+turned_from D ops p limit aim Spent old older new numbers e h = h

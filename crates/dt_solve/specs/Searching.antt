@@ -1,5 +1,5 @@
 -- What holds during a search.
-use Rattle.std.specs.Prelude.{◌≡◌, ◌≢◌, ℕ, ◌+◌, ◌*◌, ◌-◌, ◌<◌, ◌≤◌, Bool, true, false, Option, Some, List, [], ◌∷◌, length, reverse, All}
+use Rattle.std.specs.Prelude.{◌≡◌, ◌≢◌, ℕ, ◌+◌, ◌*◌, ◌-◌, ◌<◌, ◌≤◌, Bool, true, false, Option, Some, None, List, [], ◌∷◌, length, reverse, All}
 use Rattle.std.specs.List.{AllByRecursion}
 use Rattle.dt_domain.specs.Domain.{DomainOps}
 use Rattle.dt_terms.specs.declared.term.Term.{Term}
@@ -41,6 +41,11 @@ pub record HasChanged {D : Type 0} (ops : DomainOps D) (terms : List Term) (cell
 abbrev pub IsStart : {D : Type 0} → DomainOps D → List Term → Start → List D → Type 0
 IsStart ops terms (Ended end) cells = IsEnd ops terms end cells (IsSettled ops terms cells)
 IsStart ops terms (Changed t) cells = HasChanged ops terms cells t
+
+-- the term whose cell changed, where one did
+abbrev pub changed_term : Start → Option ℕ
+changed_term (Ended end) = None
+changed_term (Changed t) = Some t
 
 -- ---- the trees that wait
 

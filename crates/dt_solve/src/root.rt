@@ -3,7 +3,7 @@ ghost use Rattle.dt_box.specs.Cells.{AreCells};
 ghost use Rattle.dt_box.specs.Stillness.{IsSettled};
 ghost use Rattle.dt_box.specs.Watching.{watches_of};
 ghost use Rattle.dt_propagate.specs.Settling.{IsLogged, IsEnd};
-ghost use Rattle.dt_solve.specs.Roots.{IsRoot};
+ghost use Rattle.dt_solve.specs.Roots.{IsRoot, is_refuted};
 
 use crate::writing::copy_of;
 use dt_bits::NoMemory;
@@ -58,7 +58,9 @@ pub(crate) fn settled_root<D: Deciding>(
 }
 
 // Whether a root cell is empty, so that nothing is left to search.
-pub(crate) fn is_refuted<D: Domain>(root: &Root<D>) -> bool {
+pub(crate) fn is_refuted<D: Domain>(root: &Root<D>) -> bool
+    ensures { result ≡ is_refuted root.now.end }
+{
     match root.end {
         Settled::Quiet => false,
         Settled::Empty(_) => true,

@@ -10,9 +10,10 @@ ghost use Rattle.dt_log.specs.declared.line.Line.TheVariants.{Split, Close};
 ghost use Rattle.dt_check.specs.declared.pending.Pending.{Pending};
 ghost use Rattle.dt_check.specs.Waiting.{Stacked, CanBegin, AtSplits, IsNext, IsBegun};
 ghost use Rattle.dt_check.specs.Trying.{IsTrial};
+ghost use Rattle.dt_check.specs.Sound.{IsEmptyAt};
 ghost use Rattle.dt_propagate.specs.Settling.{IsProgress, IsEnd};
 ghost use Rattle.dt_solve.specs.Roots.{IsRoot};
-ghost use Rattle.dt_solve.specs.Searching.{IsStart, IsSearching, IsAt, IsTurned};
+ghost use Rattle.dt_solve.specs.Searching.{IsStart, IsSearching, IsAt, IsTurned, changed_term};
 
 use crate::choosing::{ChoiceBit, bit_to_split};
 use crate::guiding::{Guide, Rule};
@@ -94,7 +95,9 @@ pub(crate) fn begin<D: Deciding>(
 }
 
 // The term whose cell changed, where one did.
-fn changed_term(start: Start) -> Option<u32> {
+fn changed_term(start: Start) -> Option<u32>
+    ensures { result ≡ changed_term start }
+{
     match start {
         Start::Ended(_) => None,
         Start::Changed(term) => Some(term),
@@ -230,6 +233,40 @@ fn try_or_split<D: Deciding, P: Proposer<D>>(
     Ok(Turned::More)
 }
 
+// Closes the tree at the empty cell of a term, and goes on with the tree that waited first; where none
+// did, the draft is a refutation.
+fn turn_back<D: Deciding>(
+    problem: &Problem,
+    search: &mut Search<D>,
+    term: u32,
+) -> Result<Turned, NoMemory>
+    requires cells { AreCells D.ops problem.now.terms search.old.cells }
+    requires within { All (λ change. change.0 < length search.old.cells) search.old.trail }
+    requires stacked { Stacked (length search.old.trail) (reverse search.old.pending.items) }
+    requires begin { AtSplits (CanBegin D.ops problem.now.terms) search.old.cells search.old.trail (reverse search.old.pending.items) }
+    requires trial { IsTrial D.ops problem.now.terms search.old.cells search.old.trail search.old.trial }
+    requires empty { IsEmptyAt D.ops problem.now.terms search.old.cells term }
+    ensures { IfOk result (λ turned. (limit : ℕ) → (aim : Option (List ℕ)) → (numbers : List ℕ) → IsSearching D.ops problem.now limit aim search.old.cells search.old.trail search.old.pending.items search.old.draft.lines search.old.splits → IsTurned D.ops problem.now limit aim search.old turned search.new numbers) }
+{
+    let _ = &problem.terms;
+    match close_tree(
+        problem,
+        &mut search.cells,
+        &mut search.trail,
+        &mut search.pending,
+        &mut search.draft,
+        &mut search.trial,
+        term,
+    )? {
+        None => Ok(Turned::Refuted),
+        Some(split) => {
+            search.guide.blame(changed_term(search.start));
+            search.start = Start::Changed(split.term);
+            Ok(Turned::More)
+        }
+    }
+}
+
 // A turn: the cells are settled; where one is empty, the tree is closed and the next one begun; else
 // numbers are tried, and where they fail, a bit is split, unless the limit is reached.
 pub(crate) fn turn<D: Deciding, P: Proposer<D>>(
@@ -256,22 +293,7 @@ pub(crate) fn turn<D: Deciding, P: Proposer<D>>(
         &mut search.trail,
         &mut search.draft,
     )? {
-        Settled::Empty(term) => match close_tree(
-            problem,
-            &mut search.cells,
-            &mut search.trail,
-            &mut search.pending,
-            &mut search.draft,
-            &mut search.trial,
-            term,
-        )? {
-            None => Ok(Turned::Refuted),
-            Some(split) => {
-                search.guide.blame(changed_term(search.start));
-                search.start = Start::Changed(split.term);
-                Ok(Turned::More)
-            }
-        },
+        Settled::Empty(term) => turn_back(problem, search, term),
         Settled::Quiet => try_or_split(problem, limit, proposer, search, tried),
     }
 }

@@ -1,5 +1,5 @@
 -- The walks that the values tell meet all that is asked of where they go, where the forms of demands and links hold; so they go by open ways.
-use Rattle.std.proofs.Common.{◌≡◌, ℕ, zero, suc, ◌+◌, ◌<◌, ◌^◌, Bool, true, false, cond, eqb, List, [], ◌∷◌, ◌++◌, length, map, Option, Some, None, refl, sym, ap, ◌∙◌, subst, arith}
+use Rattle.std.proofs.Common.{◌≡◌, ℕ, zero, suc, ◌+◌, ◌<◌, ◌^◌, Bool, true, false, cond, eqb, List, [], ◌∷◌, ◌++◌, length, map, Option, Some, None, refl, sym, subst, arith}
 use Rattle.std.specs.Prelude.{slice_get, slice_index_or, IsSomeAnd, IsTrue}
 use Rattle.std.specs.List.{flat_map, AllByRecursion}
 use Rattle.std.proofs.lemmas.Bool.{eqb-true}
@@ -13,10 +13,9 @@ use Rattle.dt_request.specs.declared.list.Demand.{Demand}
 use Rattle.dt_request.specs.declared.list.Demand.TheVariants.{Via, Avoid, Take, EndDone, EndFault, Page, Bits, Span}
 use Rattle.dt_request.specs.declared.list.Link.{Link}
 use Rattle.dt_request.specs.declared.list.Link.TheVariants.{ShareTable, ShareCell, SharePage, ApartTable, ApartPage}
-use Rattle.dt_request.specs.declared.list.Quantity.{Quantity}
 use Rattle.dt_request.specs.declared.list.Quantity.TheVariants.{Reg, Input, Word, Cell, Pa}
 use Rattle.dt_request.specs.declared.list.Side.{Side}
-use Rattle.dt_request.specs.Lists.{IsFork, IsReadNode, IsDemand, IsSide, IsLink, is_fork, read_width}
+use Rattle.dt_request.specs.Lists.{IsDemand, IsSide, IsLink, is_fork, read_width}
 use Rattle.dt_satisfy.specs.Demands.{Made, meets, visits}
 use Rattle.dt_forms.specs.Meaning.{Valuation, is_one}
 use Rattle.dt_forms.specs.Forms.{Form, form_value}

@@ -161,7 +161,7 @@ pub record AreOutsSized (d : ModelData) (terms : List Term) (os : List Out) : Ty
   pub count : length os ≡ length (steps d)
   pub outs : AllOuts (IsOutSized d.address d.word terms) (steps d) os
 
-node_sized : (d : ModelData) (terms : List Term) (os : List Out) (n : ℕ) → AreOutsSized d terms os → n < length (steps d) → (p : ActData) × IsOutSized d.address d.word terms p (out_at os n)
+pub node_sized : (d : ModelData) (terms : List Term) (os : List Out) (n : ℕ) → AreOutsSized d terms os → n < length (steps d) → (p : ActData) × IsOutSized d.address d.word terms p (out_at os n)
 node_sized d terms os n h l =
     let p = element (steps d) n l in
     (p.0, out_fact (IsOutSized d.address d.word terms) (steps d) os n p.0 h.outs h.count p.1)

@@ -1,18 +1,15 @@
 -- The problem of a list within the limits has 4,000,000 terms at most.
-use Rattle.std.proofs.Common.{◌≡◌, ℕ, ◌+◌, ◌-◌, ◌*◌, ◌≤◌, cond, List, [], ◌∷◌, ◌++◌, length, map, take, refl, ap, ◌∙◌, subst, arith, length-append}
+use Rattle.std.proofs.Common.{◌≡◌, ℕ, ◌+◌, ◌-◌, ◌*◌, ◌≤◌, cond, List, [], ◌∷◌, ◌++◌, length, map, refl, ap, ◌∙◌, arith, length-append}
 use Rattle.std.specs.List.{flat_map}
 use Rattle.std.proofs.Math.Nat.{mul-le-mul, mul-le-mul_left, mul-le-mul_right, mul-add, mul_left_comm}
-use Rattle.std.proofs.lemmas.Bool.{or_parts, ltb-false, false_from_ne_true}
-use Rattle.std.proofs.lemmas.List.{take_all}
+use Rattle.std.proofs.lemmas.List.{length-map}
 use Rattle.std.proofs.lemmas.List.Elements.{All-from_recursion}
 use Rattle.std.proofs.lemmas.List.Recursion.{is_sum_by, is_count_by}
-use Rattle.dt_lemmas.proofs.Lists.{element, length_flat}
-use Rattle.dt_model.specs.declared.refusal.ModelRefusal.TheVariants.{TooMany}
+use Rattle.dt_lemmas.proofs.Lists.{length_flat}
 use Rattle.dt_model.specs.ModelData.{ModelData, Tree, ActData, NodeData, bind, read, branch, fault, done}
-use Rattle.dt_model.specs.Faults.{IsAccepted, HaveArities, steps, is_done, count_of, step_operators, rule_operators, node_operators, operators_to}
+use Rattle.dt_model.specs.Faults.{IsAccepted, HaveArities, steps, is_done, count_of, step_operators, rule_operators, node_operators}
 use Rattle.dt_model.specs.Widths.{operators}
-use Rattle.dt_model.proofs.Accepting.{few_regs, few_inputs, few_context_rules, few_access_rules, some_nodes}
-use Rattle.dt_walk.proofs.Sound.{fine}
+use Rattle.dt_model.proofs.Accepting.{few_regs, few_inputs, few_context_rules, few_access_rules}
 use Rattle.dt_request.specs.declared.list.Requests.{Requests}
 use Rattle.dt_request.specs.Choices.{read_nodes}
 use Rattle.dt_request.specs.Lists.{IsList}
@@ -22,6 +19,7 @@ use Rattle.dt_table.specs.declared.out.Out.{Out}
 use Rattle.dt_table.specs.Claims.{reads_of}
 use Rattle.dt_table.proofs.Every.{every_pair, every_link, every_block, every_keep, every_list, every_claim, claim_part}
 use Rattle.dt_table.specs.Apart.{pages_at, tables_at}
+use Rattle.dt_table.proofs.Small.{small_is}
 use Rattle.dt_table.specs.Sizes.{IsWithin, done_nodes, model_operators, read_product, done_product}
 use Rattle.dt_table.specs.Table.{names_chosen, access_chosen, choices, list_access, bit_node, start, built, wish_forms, claim_forms, table}
 use Rattle.dt_table.proofs.Ready.{reads_in, reads_in_nodes, access_length}
@@ -58,25 +56,6 @@ done_more (done e p) ps = refl
 
 dones_total : (ns : List NodeData) → dones_in (map (λ n. n.step) ns) ≡ count_of is_done ns
 dones_total ns = is_count_by (λ (ms : List NodeData). dones_in (map (λ n. n.step) ms)) (λ (n : NodeData). is_done n.step) refl (λ x xs. done_more x.step (map (λ (n : NodeData). n.step) xs)) ns
-
--- the limits at the last node
-record IsSmall (d : ModelData) : Type 0 where
-  dones : count_of is_done d.nodes ≤ 16
-  operators : rule_operators d.legal_context ≤ 8192
-
-small_is : (d : ModelData) → IsAccepted d → IsSmall d
-small_is d a =
-    let pos = some_nodes d a in
-    let i = length d.nodes - 1 in
-    let n = element d.nodes i (omega (arith, pos)) in
-    let none = false_from_ne_true _ (fine d i n.0 a n.1 TooMany) in
-    let last = or_parts _ _ none in
-    let more = or_parts _ _ last.0 in
-    let third = or_parts _ _ more.0 in
-    let all : take (i + 1) d.nodes ≡ d.nodes = take_all (i + 1) d.nodes (omega (arith, pos)) in
-    let ds = ltb-false 16 (count_of is_done (take (i + 1) d.nodes)) third.1 in
-    let os = ltb-false 8192 (operators_to d (i + 1)) last.1 in
-    record { dones = subst (λ (l : List NodeData). count_of is_done l ≤ 16) all ds; operators = omega (arith, os) }
 
 -- ---- the parts
 
@@ -127,7 +106,7 @@ accesses_most d r a list within =
     let z = within.reads in
     omega (arith, l, s, t, u, v, w, y, z)
 
-every_most : (d : ModelData) (r : Requests) (oss : List (List Out)) → IsAccepted d → IsList d r → IsWithin d r → length oss ≡ length r.accesses → forms_size (every_claim d r oss) ≤ 1999872
+every_most : (d : ModelData) (r : Requests) (oss : List (List Out)) → IsAccepted d → IsList d r → IsWithin d r → length oss ≡ length r.accesses → forms_size (every_claim d r oss) ≤ 1803264
 every_most d r oss accepted list within same =
     let a = list_access d r in
     let A = length r.accesses in
@@ -171,10 +150,20 @@ every_most d r oss accepted list within same =
     let w = within.dones in
     omega (arith, s1, s2, s3, s4, x1, y1, x2, y2, z2, w2, v2, x3, y3, x4, y4, x5, y5, n, w)
 
-pub claims_most : (d : ModelData) (r : Requests) (oss : List (List Out)) → IsAccepted d → IsList d r → IsWithin d r → length oss ≡ length r.accesses → forms_size (claim_forms d r oss) ≤ 1999872
+pub claims_most : (d : ModelData) (r : Requests) (oss : List (List Out)) → IsAccepted d → IsList d r → IsWithin d r → length oss ≡ length r.accesses → forms_size (claim_forms d r oss) ≤ 1803264
 claims_most d r oss accepted list within same = let m = (claim_part d r oss).most in let n = every_most d r oss accepted list within same in omega (arith, m, n)
 
 -- ---- the whole
+
+-- the nodes of all accesses
+nodes_most : (d : ModelData) (r : Requests) → IsWithin d r → length r.accesses * length (steps d) ≤ 200000
+nodes_most d r within =
+    let A = length r.accesses in
+    let N = length d.nodes in
+    let same : A * length (steps d) ≡ A * N = ap (λ (n : ℕ). A * n) (length-map d.nodes (λ n. n.step)) in
+    let part : A * N ≤ A * (N + model_operators d) = mul-le-mul_left A (omega arith) in
+    let w = within.terms in
+    omega (arith, same, part, w)
 
 pub table_count : (d : ModelData) (r : Requests) → IsAccepted d → HaveArities d → IsList d r → IsWithin d r → length (table d r).terms ≤ most_terms
 table_count d r a h list within =
@@ -183,8 +172,9 @@ table_count d r a h list within =
     let y = contexts_most d r a list in
     let z = accesses_most d r a list within in
     let c = claims_most d r (built d r).outs a list within whole.count in
+    let n = nodes_most d r within in
     let m = whole.most in
-    omega (arith, x, y, z, c, m)
+    omega (arith, x, y, z, c, n, m)
 
 pub table_problem : (d : ModelData) (r : Requests) → IsAccepted d → HaveArities d → IsList d r → IsWithin d r → IsProblem (table d r)
 table_problem d r a h list within =

@@ -19,7 +19,7 @@ use Rattle.dt_forms.specs.Forms.{Form, Placing, required_by, term}
 use Rattle.dt_forms.specs.Placing.{place}
 use Rattle.dt_forms.specs.Sizes.{Grows}
 use Rattle.dt_forms.proofs.Sizes.{Puts, place_can, grows_none, grows_on, grows_within}
-use Rattle.dt_forms.proofs.Fine.{IsSized, AreFine, forms_size, all_stand, tests_on, fine_append, mul_more, term_fine, size_append}
+use Rattle.dt_forms.proofs.Fine.{IsSized, AreFine, forms_size, all_stand, tests_on, fine_append, mul_more, term_fine, or_fine, size_append}
 use Rattle.dt_table.specs.Expressions.{Named, form_of}
 use Rattle.dt_table.specs.declared.out.Out.{Out}
 use Rattle.dt_table.specs.Passing.{walk_placed}
@@ -27,18 +27,20 @@ use Rattle.dt_table.specs.Claims.{reads_of}
 use Rattle.dt_table.proofs.Every.{every_pair, every_link, every_block, every_keep, every_list, every_claim, pages_in, tables_in, reads_among, claim_part}
 use Rattle.dt_table.specs.Apart.{Sized, pages_at, tables_at}
 use Rattle.dt_table.specs.Demands.{demand_forms}
-use Rattle.dt_table.specs.Links.{link_forms}
-use Rattle.dt_table.specs.Table.{choices, regs_at, inputs_at, words_at, access_of, first_state, rule_named, context_rules, access_rules, Built, with_by, with_forms, contexts_built, access_built, accesses_built, wish_forms, page_forms, keep_forms, list_forms, claim_forms, list_access}
+use Rattle.dt_table.specs.Table.{choices, regs_at, inputs_at, words_at, access_of, first_state, rule_named, context_rules, access_rules, Built, with_by, with_forms, contexts_built, access_built, accesses_built, wish_forms, claim_forms, list_access}
 use Rattle.dt_reach.specs.declared.ways.Ways.{Ways}
 use Rattle.dt_ways.specs.Ways.{access_ways}
 use Rattle.dt_reach.specs.Reach.{is_live, none_pass}
-use Rattle.dt_table.specs.Extras.{dead_forms, sure_forms, extras_of, all_extras}
+use Rattle.dt_table.specs.Extras.{dead_forms, sure_forms, dominator_if, is_new, dominator_forms, extras_of, all_extras}
+use Rattle.dt_table.specs.Outs.{out_at}
+use Rattle.dt_reach.specs.Dominating.{immediate_dominator}
+use Rattle.dt_reach.proofs.Dominating.{immediate_within}
 use Rattle.dt_table.proofs.Accesses.{length_outs}
 use Rattle.dt_table.proofs.Ready.{IsReady, access_left, reads_in, reads_in_nodes}
 use Rattle.dt_table.proofs.FineTrees.{AreSized, tree_fine, tree_size}
 use Rattle.dt_table.proofs.FineChoices.{AreChosen, chosen_on}
 use Rattle.dt_table.proofs.FineWalks.{IsPlain, IsSound, outs_on, steps_size, walk_sound, IsOutSized}
-use Rattle.dt_table.proofs.FineClaims.{AreBits, AreWide, AreNamesSized, AreOutsSized, pages_sized, tables_sized, reads_sized, aparts_fine, pairs_fine, keeps_fine, demands_fine, links_fine, IsNodeSized, IsReadSized}
+use Rattle.dt_table.proofs.FineClaims.{AreBits, AreWide, AreNamesSized, AreOutsSized, pages_sized, tables_sized, reads_sized, aparts_fine, pairs_fine, keeps_fine, demands_fine, links_fine, IsNodeSized, IsReadSized, node_sized}
 use Rattle.dt_table.proofs.Flagged.{AllOuts}
 
 -- ---- rules
@@ -270,13 +272,33 @@ sure_fine address word terms live all (p ∷ ps) (o ∷ os) n e h = by_sure (non
     by_sure true g = (term_fine terms o.come 1 h.0.come, g)
     by_sure false g = g
 
+dominators_fine : (d : ModelData) (terms : List Term) (live sure : ℕ → Bool) (last : ℕ → ℕ) (all : List Out) (os : List Out) (n : ℕ) → ((k : ℕ) → last k ≤ k) → AreOutsSized d terms all → n + length os ≤ length all → ((j : ℕ) → j < length os → IsSized terms (out_at os j).away 1) → AreFine terms (dominator_forms live sure last all os n)
+dominators_fine d terms live sure last all [] n before h l away = tt
+dominators_fine d terms live sure last all (o ∷ os) n before h l away =
+    fine_append terms (dominator_if (is_new live sure n (last n)) o (out_at all (last n))) (dominator_forms live sure last all os (n + 1)) (by_new (is_new live sure n (last n)))
+    (dominators_fine d terms live sure last all os (n + 1) before h (omega (arith, l)) (λ j m. away (suc j) (omega (arith, m))))
+  where
+    by_new : (b : Bool) → AreFine terms (dominator_if b o (out_at all (last n)))
+    by_new true =
+        let m = before n in
+        let count = h.count in
+        let by = (node_sized d terms all (last n) h (omega (arith, l, m, count))).1 in
+        (or_fine terms (term o.away) (term (out_at all (last n)).come) (term_fine terms o.away 1 (away 0 (omega arith))) (term_fine terms (out_at all (last n)).come 1 by.come), tt)
+    by_new false = tt
+
 pub extras_fine : (d : ModelData) (r : Requests) (terms : List Term) (k : ℕ) (oss : List (List Out)) → AllByRecursion (AreOutsSized d terms) oss → AreFine terms (all_extras d r k oss)
 extras_fine d r terms k [] h = tt
 extras_fine d r terms k (os ∷ oss) h =
     let ws = access_ways d r k in
     let live = is_live ws in
+    let sure = none_pass live ws 0 in
+    let last = immediate_dominator ws in
+    let count = h.0.count in
+    let away : (j : ℕ) → j < length os → IsSized terms (out_at os j).away 1 = λ j l. (node_sized d terms os j h.0 (omega (arith, l, count))).1.away in
     fine_append terms (extras_of ws os) (all_extras d r (k + 1) oss)
-    (fine_append terms (dead_forms live os 0) (sure_forms live ws os 0) (dead_fine d.address d.word terms live (steps d) os 0 h.0.count h.0.outs) (sure_fine d.address d.word terms live ws (steps d) os 0 h.0.count h.0.outs))
+    (fine_append terms (dead_forms live os 0) (sure_forms live ws os 0 ++ dominator_forms live sure last os os 0) (dead_fine d.address d.word terms live (steps d) os 0 count h.0.outs)
+    (fine_append terms (sure_forms live ws os 0) (dominator_forms live sure last os os 0) (sure_fine d.address d.word terms live ws (steps d) os 0 count h.0.outs)
+    (dominators_fine d terms live sure last os os 0 (immediate_within ws) h.0 (omega arith) away)))
     (extras_fine d r terms (k + 1) oss h.1)
 
 dead_size : (live : ℕ → Bool) (os : List Out) (n : ℕ) → forms_size (dead_forms live os n) ≡ 0
@@ -295,15 +317,37 @@ sure_size live ws (o ∷ os) n = by_sure (none_pass live ws 0 n) (sure_size live
     by_sure true g = omega (arith, g)
     by_sure false g = g
 
--- they take no terms
-pub extras_size : (d : ModelData) (r : Requests) (k : ℕ) (oss : List (List Out)) → forms_size (all_extras d r k oss) ≡ 0
-extras_size d r k [] = refl
-extras_size d r k (os ∷ oss) =
+dominators_size : (live sure : ℕ → Bool) (last : ℕ → ℕ) (all os : List Out) (n : ℕ) → forms_size (dominator_forms live sure last all os n) ≤ length os
+dominators_size live sure last all [] n = omega arith
+dominators_size live sure last all (o ∷ os) n =
+    let here = by_new (is_new live sure n (last n)) in
+    let s = size_append (dominator_if (is_new live sure n (last n)) o (out_at all (last n))) (dominator_forms live sure last all os (n + 1)) in
+    let rest = dominators_size live sure last all os (n + 1) in
+    omega (arith, here, s, rest)
+  where
+    by_new : (b : Bool) → forms_size (dominator_if b o (out_at all (last n))) ≤ 1
+    by_new true = omega arith
+    by_new false = omega arith
+
+-- they take a term for each node of each access at most
+pub extras_size : (d : ModelData) (r : Requests) (k : ℕ) (oss : List (List Out)) (nodes : ℕ) → AllByRecursion (λ (os : List Out). length os ≡ nodes) oss → forms_size (all_extras d r k oss) ≤ length oss * nodes
+extras_size d r k [] nodes h = omega arith
+extras_size d r k (os ∷ oss) nodes h =
     let ws = access_ways d r k in
     let live = is_live ws in
+    let sure = none_pass live ws 0 in
+    let last = immediate_dominator ws in
     let s = size_append (extras_of ws os) (all_extras d r (k + 1) oss) in
-    let t = size_append (dead_forms live os 0) (sure_forms live ws os 0) in
+    let t = size_append (dead_forms live os 0) (sure_forms live ws os 0 ++ dominator_forms live sure last os os 0) in
+    let u = size_append (sure_forms live ws os 0) (dominator_forms live sure last os os 0) in
     let x = dead_size live os 0 in
     let z = sure_size live ws os 0 in
-    let y = extras_size d r (k + 1) oss in
-    omega (arith, s, t, x, y, z)
+    let w = dominators_size live sure last os os 0 in
+    let y = extras_size d r (k + 1) oss nodes h.1 in
+    let m = mul_more (length oss) nodes in
+    let e = h.0 in
+    omega (arith, s, t, u, x, z, w, y, m, e)
+
+pub outs_counted : (d : ModelData) (terms : List Term) (oss : List (List Out)) → AllByRecursion (AreOutsSized d terms) oss → AllByRecursion (λ (os : List Out). length os ≡ length (steps d)) oss
+outs_counted d terms [] h = tt
+outs_counted d terms (os ∷ oss) h = (h.0.count, outs_counted d terms oss h.1)

@@ -1,8 +1,8 @@
 -- How many terms the claims of a list take.
-use Rattle.std.proofs.Common.{◌≡◌, ℕ, suc, ◌+◌, ◌-◌, ◌*◌, ◌/◌, ◌≤◌, ◌^◌, Bool, true, false, cond, not, ◌&&◌, eqb, leb, ltb, List, [], ◌∷◌, ◌++◌, length, map, refl, arith}
+use Rattle.std.proofs.Common.{◌≡◌, ℕ, suc, ◌+◌, ◌-◌, ◌*◌, ◌/◌, ◌≤◌, ◌^◌, Bool, true, false, cond, not, ◌&&◌, eqb, leb, ltb, List, [], ◌∷◌, ◌++◌, length, map, refl, ap, ◌∙◌, arith}
 use Rattle.std.specs.Prelude.{max}
 use Rattle.std.specs.List.{flat_map, AllByRecursion}
-use Rattle.std.proofs.Math.Nat.{mul-le-mul, mul-le-mul_left, mul-le-mul_right}
+use Rattle.std.proofs.Math.Nat.{mul-le-mul, mul-le-mul_right, mul-add}
 use Rattle.dt_bits.specs.declared.op.Op.TheVariants.{Shr}
 use Rattle.dt_model.specs.ModelData.{ModelData, ActData, bind, read, branch, fault, done}
 use Rattle.dt_model.specs.Faults.{steps}
@@ -95,7 +95,7 @@ aparts_size a pages tables =
 
 -- ---- reads at one cell
 
-pub pairs_size : (os : List Out) → forms_size (every_pair os) ≤ length os * (length os * 6)
+pub pairs_size : (os : List Out) → 2 * forms_size (every_pair os) ≤ length os * (length os * 6)
 pairs_size [] = omega arith
 pairs_size (o ∷ os) =
     let n = length os in
@@ -103,9 +103,9 @@ pairs_size (o ∷ os) =
     let b = size_map (pair_form o) 6 (λ q. omega arith) os in
     let c = pairs_size os in
     let d = mul_more n (n * 6) in
-    let e : n * 6 ≤ suc n * 6 = omega arith in
-    let f : suc n * (n * 6) ≤ suc n * (suc n * 6) = mul-le-mul_left (suc n) e in
-    omega (arith, a, b, c, d, f)
+    let e : suc n * 6 ≡ n * 6 + 6 = omega arith in
+    let f : suc n * (suc n * 6) ≡ suc n * (n * 6) + suc n * 6 = ap (λ (k : ℕ). suc n * k) e ∙ mul-add (suc n) (n * 6) 6 in
+    omega (arith, a, b, c, d, e, f)
 
 -- ---- kept ranges
 

@@ -5,7 +5,7 @@ use Rattle.std.proofs.lemmas.List.Elements.{recursion_from_All}
 use Rattle.dt_lemmas.proofs.Lists.{each_has}
 use Rattle.dt_bits.specs.Bits.{IsWidth}
 use Rattle.dt_model.specs.ModelData.{ModelData, Tree}
-use Rattle.dt_model.specs.Faults.{IsAccepted, HaveArities, steps, context_scope, access_scope}
+use Rattle.dt_model.specs.Faults.{IsAccepted, HaveArities, context_scope, access_scope, steps}
 use Rattle.dt_model.specs.Widths.{HasArities, tree_width}
 use Rattle.dt_model.proofs.Accepting.{reg_widths, input_widths, var_widths, accepted_word, accepted_address, context_rule_width, access_rule_width, context_arities, access_arities}
 use Rattle.dt_request.specs.declared.list.AccessWish.{AccessWish}
@@ -25,11 +25,11 @@ use Rattle.dt_table.proofs.Ranges.{within_all}
 use Rattle.dt_table.proofs.FineChoices.{start_chosen, start_terms}
 use Rattle.dt_table.proofs.FineWalks.{IsPlain}
 use Rattle.dt_table.proofs.FineClaims.{AreOutsSized, names_wide}
-use Rattle.dt_table.proofs.FineLists.{rules_size, IsModel, IsAsked, IsBuilt, access_size, contexts_onward, accesses_onward, onward_by, claims_fine, extras_fine, extras_size}
+use Rattle.dt_table.proofs.FineLists.{rules_size, IsModel, IsAsked, IsBuilt, access_size, contexts_onward, accesses_onward, onward_by, claims_fine, extras_fine, extras_size, outs_counted}
 
 -- ---- what an accepted model gives
 
-word_wide : (d : ModelData) → IsAccepted d → IsWidth d.word
+pub word_wide : (d : ModelData) → IsAccepted d → IsWidth d.word
 word_wide d a = let w = accepted_word d a in (omega (arith, w), omega (arith, w))
 
 address_wide : (d : ModelData) → IsAccepted d → IsWidth d.address
@@ -84,14 +84,18 @@ asked_is d r list = record {
 
 -- ---- the terms
 
--- how many terms the rules and walks take at most, and the claims
+-- how many terms the rules and walks take at most
 abbrev pub base_size : ModelData → Requests → ℕ
 base_size d r = length r.contexts * rules_size d.legal_context + length r.accesses * access_size d
+
+-- how many terms the claims take at most, with the further forms
+abbrev pub claims_size : ModelData → Requests → ℕ
+claims_size d r = forms_size (claim_forms d r (built d r).outs) + length r.accesses * length (steps d)
 
 pub record IsWhole (d : ModelData) (r : Requests) : Type 0 where
   pub terms_are : AreTerms (table d r).terms
   pub tests : AllByRecursion (IsTest (table d r).terms) (table d r).required
-  pub most : length (table d r).terms ≤ length (start d r).terms + base_size d r + forms_size (claim_forms d r (built d r).outs)
+  pub most : length (table d r).terms ≤ length (start d r).terms + base_size d r + claims_size d r
   pub count : length (built d r).outs ≡ length r.accesses
 
 pub table_whole : (d : ModelData) (r : Requests) → IsAccepted d → HaveArities d → IsList d r → IsWhole d r
@@ -110,9 +114,11 @@ table_whole d r a h list =
     let n : length b.outs ≡ length r.accesses = (let e = y.count in omega (arith, e, zero_outs)) in
     let claims = claim_forms d r b.outs ++ extra_forms d r b.outs in
     let f = fine_append b.terms (claim_forms d r b.outs) (extra_forms d r b.outs) (claims_fine d r b.terms b.outs model asked y.onward.built_is.chosen y.outs n) (extras_fine d r b.terms 0 b.outs y.outs) in
-    let size : forms_size claims ≤ forms_size (claim_forms d r b.outs) = (let e = size_append (claim_forms d r b.outs) (extra_forms d r b.outs) in let x = extras_size d r 0 b.outs in omega (arith, e, x)) in
-    let z = onward_by fold fold_can d r b claims (forms_size (claim_forms d r b.outs)) y.onward.built_is f size in
-    let g = grows_on s.terms b.terms (with_claims b claims).terms (base_size d r) (forms_size (claim_forms d r b.outs)) (grows_on s.terms c.terms b.terms (length r.contexts * rules_size d.legal_context) (length r.accesses * access_size d) x.grows y.onward.grows) z.grows in
+    let nodes = length (steps d) in
+    let more : forms_size (extra_forms d r b.outs) ≤ length r.accesses * nodes = subst (λ (k : ℕ). forms_size (extra_forms d r b.outs) ≤ k * nodes) n (extras_size d r 0 b.outs nodes (outs_counted d b.terms b.outs y.outs)) in
+    let size : forms_size claims ≤ claims_size d r = (let e = size_append (claim_forms d r b.outs) (extra_forms d r b.outs) in omega (arith, e, more)) in
+    let z = onward_by fold fold_can d r b claims (claims_size d r) y.onward.built_is f size in
+    let g = grows_on s.terms b.terms (with_claims b claims).terms (base_size d r) (claims_size d r) (grows_on s.terms c.terms b.terms (length r.contexts * rules_size d.legal_context) (length r.accesses * access_size d) x.grows y.onward.grows) z.grows in
     record {
       terms_are = z.built_is.terms_are;
       tests = z.built_is.tests;

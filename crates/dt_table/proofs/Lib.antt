@@ -40,6 +40,7 @@ pub mod Results
 pub mod Rising
 pub mod Satisfying
 pub mod Sides
+pub mod Small
 pub mod Solving
 pub mod Stand
 pub mod TableMemory

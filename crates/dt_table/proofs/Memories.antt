@@ -1,7 +1,7 @@
 -- The words that are read are those of a table memory: by rising addresses, each at a place of the memory, each fitting.
 use Rattle.std.proofs.Common.{◌≡◌, ℕ, zero, suc, ◌+◌, ◌%◌, ◌<◌, ◌≤◌, Bool, true, false, cond, ◌&&◌, eqb, ltb, leb, List, [], ◌∷◌, length, get_or, Some, None, refl, sym, subst, arith}
 use Rattle.std.specs.List.{AllByRecursion}
-use Rattle.std.proofs.lemmas.Bool.{false≢true, eqb-true, eqb-false, ltb-true, ltb-false, leb-true}
+use Rattle.std.proofs.lemmas.Bool.{and_parts, eqb-true, eqb-false, ltb-true, ltb-false, leb-true}
 use Rattle.dt_bits.specs.declared.memory.Word.{Word}
 use Rattle.dt_bits.specs.Memory.{Memory, IsRising, AreWords, is_place, listed}
 use Rattle.dt_model.specs.ModelData.{ActData, bind, read, branch, fault, done}
@@ -94,13 +94,9 @@ walk_places s m (p ∷ ps) n to vars = by_place (eqb n to) (λ to2 w. walk_place
 
 place_parts : (bytes lo hi a : ℕ) → ((eqb (a % bytes) 0) && (leb lo a && ltb a hi)) ≡ true → (a % bytes ≡ 0) × (lo ≤ a) × (a < hi)
 place_parts bytes lo hi a h =
-    let p = parts (eqb (a % bytes) 0) _ h in
-    let q = parts (leb lo a) (ltb a hi) p.1 in
+    let p = and_parts (eqb (a % bytes) 0) _ h in
+    let q = and_parts (leb lo a) (ltb a hi) p.1 in
     (eqb-true (a % bytes) 0 p.0, leb-true lo a q.0, ltb-true a hi q.1)
-  where
-    parts : (x y : Bool) → (x && y) ≡ true → (x ≡ true) × (y ≡ true)
-    parts true y e = (refl, e)
-    parts false y e = absurd (false≢true e)
 
 -- words of reads at places lie in the memory
 pub words_placed : (m : Memory) (rs : List ReadMade) → ArePlaces m rs → AreWords m.bytes m.lo m.hi (words_read rs)

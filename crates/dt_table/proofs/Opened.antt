@@ -1,10 +1,10 @@
 -- A walk that meets what is asked of it goes by open ways alone.
-use Rattle.std.proofs.Common.{◌≡◌, ℕ, zero, suc, ◌+◌, ◌<◌, ◌≤◌, Bool, true, false, cond, not, ◌&&◌, ◌||◌, eqb, leb, ltb, List, [], ◌∷◌, length, Option, Some, None, ◌⊎◌, inl, inr, refl, sym, ap, ◌∙◌, subst, arith}
+use Rattle.std.proofs.Common.{◌≡◌, ℕ, zero, suc, ◌+◌, ◌<◌, ◌≤◌, Bool, true, false, cond, not, ◌&&◌, eqb, leb, ltb, List, [], ◌∷◌, length, Some, None, ◌⊎◌, inl, inr, refl, sym, ap, ◌∙◌, arith}
 use Rattle.std.specs.Prelude.{slice_get}
 use Rattle.std.specs.List.{list_any, list_all, AllByRecursion}
-use Rattle.std.proofs.lemmas.Bool.{eqb-true, le-leb, or_from, and_from, and_left, and_parts, ltb-true, not-true, false≢true, cases_Bool, cases_lt}
+use Rattle.std.proofs.lemmas.Bool.{eqb-true, le-leb, or_from, and_from, and_parts, ltb-true, false≢true, cases_Bool, cases_lt}
 use Rattle.dt_lemmas.proofs.Options.{some_is}
-use Rattle.dt_model.specs.ModelData.{ActData, bind, read, branch, fault, done}
+use Rattle.dt_model.specs.ModelData.{ActData}
 use Rattle.dt_request.specs.Lists.{is_fork}
 use Rattle.dt_request.specs.declared.list.Demand.{Demand}
 use Rattle.dt_request.specs.declared.list.Demand.TheVariants.{Via, Avoid, Take, EndDone, EndFault, Page, Bits, Span}

@@ -1,14 +1,12 @@
 -- How a walk goes from node to node, whatever the words are: by edges, past no node that it visits, and to one end.
-use Rattle.std.proofs.Common.{◌≡◌, ℕ, suc, ◌+◌, ◌<◌, ◌≤◌, Bool, true, false, cond, not, ◌&&◌, ◌||◌, eqb, List, [], ◌∷◌, length, Option, Some, None, ◌⊎◌, inl, inr, refl, sym, ap, ◌∙◌, subst, arith}
+use Rattle.std.proofs.Common.{◌≡◌, ℕ, suc, ◌+◌, ◌<◌, ◌≤◌, Bool, true, false, cond, not, ◌&&◌, ◌||◌, eqb, List, [], ◌∷◌, length, Some, None, ◌⊎◌, inl, inr, refl, sym, ap, ◌∙◌, subst, arith}
 use Rattle.std.specs.Prelude.{slice_get}
-use Rattle.std.specs.List.{list_any}
-use Rattle.std.proofs.lemmas.Bool.{eqb-true, eqb-false, ne_eqb, eq-eqb, or_left, or_right, false≢true, cases_Bool, and_parts, not-true}
+use Rattle.std.proofs.lemmas.Bool.{eqb-true, eqb-false, eq-eqb, or_left, or_right, false≢true, cases_Bool, and_parts, not-true}
 use Rattle.dt_model.specs.ModelData.{ActData, bind, read, branch, fault, done}
 use Rattle.dt_request.specs.Lists.{is_fork}
 use Rattle.dt_walk.specs.declared.run.End.{End}
 use Rattle.dt_walk.specs.declared.run.End.TheVariants.{Done, Fault}
 use Rattle.dt_walk.specs.declared.run.ReadMade.{ReadMade}
-use Rattle.dt_walk.specs.declared.run.SideTaken.{SideTaken}
 use Rattle.dt_walk.specs.Meaning.{EnvData, Vars, bound, value_at}
 use Rattle.dt_walk.specs.Walks.{RunData, visit, ended, read_of}
 use Rattle.dt_satisfy.specs.Demands.{visits, leaves, is_side}

@@ -1,7 +1,7 @@
 -- The claims that are left out hold: walks that go by open ways don't come to their nodes.
-use Rattle.std.proofs.Common.{◌≡◌, ℕ, zero, suc, ◌+◌, ◌<◌, ◌≤◌, ◌^◌, Bool, true, false, cond, not, ◌&&◌, ◌||◌, eqb, ltb, List, [], ◌∷◌, ◌++◌, length, map, Some, ◌⊎◌, inl, inr, refl, sym, ap, ◌∙◌, subst, arith}
+use Rattle.std.proofs.Common.{◌≡◌, ℕ, suc, ◌+◌, ◌<◌, ◌≤◌, ◌^◌, Bool, true, false, cond, not, ◌&&◌, ◌||◌, eqb, ltb, List, [], ◌∷◌, ◌++◌, length, map, ◌⊎◌, inl, inr, refl, sym, ap, ◌∙◌, subst, arith}
 use Rattle.std.specs.List.{flat_map, AllByRecursion}
-use Rattle.std.proofs.lemmas.Bool.{eqb-true, or_left, or_right, or_parts, and_from, and_cases, and_left, and_right, not-true, false≢true, cases_Bool, cases_lt, ltb-true}
+use Rattle.std.proofs.lemmas.Bool.{eqb-true, or_left, or_right, or_parts, and_parts, and_cases, and_left, and_right, false≢true, cases_Bool, cases_lt, ltb-true}
 use Rattle.dt_lemmas.proofs.Lists.{AllByRecursion-append, AllByRecursion-split}
 use Rattle.dt_model.specs.ModelData.{ModelData, ActData, bind, read, branch, fault, done}
 use Rattle.dt_model.specs.Faults.{steps}
@@ -11,9 +11,8 @@ use Rattle.dt_request.specs.declared.list.Link.TheVariants.{ShareTable, ShareCel
 use Rattle.dt_request.specs.declared.list.Requests.{Requests}
 use Rattle.dt_request.specs.Lists.{IsLink}
 use Rattle.dt_satisfy.specs.Demands.{visits}
-use Rattle.dt_satisfy.specs.Blocks.{is_block, touches}
-use Rattle.dt_satisfy.specs.Links.{is_apart}
-use Rattle.dt_forms.specs.Meaning.{Valuation, flag, is_one}
+use Rattle.dt_satisfy.specs.Blocks.{touches}
+use Rattle.dt_forms.specs.Meaning.{Valuation, is_one}
 use Rattle.dt_forms.specs.Forms.{Form, form_value}
 use Rattle.dt_forms.specs.Claims.{Hold}
 use Rattle.dt_table.specs.declared.out.Out.{Out}
@@ -32,7 +31,7 @@ use Rattle.dt_table.specs.Table.{list_access, wish_forms, page_forms, keep_forms
 use Rattle.dt_table.specs.Told.{told}
 use Rattle.dt_ways.specs.Ways.{access_ways}
 use Rattle.dt_table.proofs.Asked.{AreAsked, access_gone}
-use Rattle.dt_table.proofs.Every.{every_pair, every_apart, every_kept, every_page, every_link, every_block, every_keep, every_list, every_claim, pages_in, tables_in, reads_among, of_spot, out_of, pages_spotted, tables_spotted, all_pages_spotted, all_tables_spotted, all_reads_spotted}
+use Rattle.dt_table.proofs.Every.{every_pair, every_apart, every_kept, every_page, every_link, every_block, every_keep, every_list, every_claim, pages_in, reads_among, of_spot, out_of, pages_spotted, all_pages_spotted, all_tables_spotted, all_reads_spotted}
 use Rattle.dt_table.proofs.Flagged.{AllOuts, IsFlagged, is_flag}
 use Rattle.dt_reach.proofs.Gone.{Gone, come_ahead, come_live}
 use Rattle.dt_table.proofs.Kept.{kept_value}
@@ -40,7 +39,6 @@ use Rattle.dt_table.proofs.Linked.{nodes_at, one_page_value}
 use Rattle.dt_table.proofs.Pages.{AreFit, block_of, apart_value, then_of}
 use Rattle.dt_table.proofs.Pairs.{is_made, pair_value}
 use Rattle.dt_table.proofs.Results.{come_of}
-use Rattle.dt_table.proofs.Told.{AreNodes, AllNodes}
 use Rattle.dt_table.proofs.Visits.{visited}
 
 -- ---- what is known of a spot
@@ -107,11 +105,7 @@ apart_ways v address ways come x y h k e = by_come (cases_Bool (is_one (v x.of.o
 
     by_come : ((is_one (v x.of.out.come) && is_one (v y.of.out.come)) ≡ true) ⊎ ((is_one (v x.of.out.come) && is_one (v y.of.out.come)) ≡ false) → (is_one (v x.of.out.come) && is_one (v y.of.out.come)) ≡ false
     by_come (inr f) = f
-    by_come (inl f) = let p = and_true (is_one (v x.of.out.come)) (is_one (v y.of.out.come)) f in absurd (by_test (and_cases (x.live && y.live) (not (eqb x.access y.access) || (is_marked x.ahead y.node || is_marked y.ahead x.node)) e) p.0 p.1)
-      where
-        and_true : (p q : Bool) → (p && q) ≡ true → (p ≡ true) × (q ≡ true)
-        and_true true q z = (refl, z)
-        and_true false q z = absurd (false≢true z)
+    by_come (inl f) = let p = and_parts (is_one (v x.of.out.come)) (is_one (v y.of.out.come)) f in absurd (by_test (and_cases (x.live && y.live) (not (eqb x.access y.access) || (is_marked x.ahead y.node || is_marked y.ahead x.node)) e) p.0 p.1)
 
 -- ---- rows
 

@@ -2,11 +2,13 @@ use Rattle.std.proofs.Common.{◌≡◌, ◌<◌, sym, ap, ◌∙◌, subst, ari
 use Rattle.std.proofs.lemmas.List.{get_or_default}
 use Rattle.dt_bits.specs.Bits.{width}
 use Rattle.dt_bits.specs.declared.value.Bv.{Bv}
+use Rattle.dt_bits.specs.Ops.{value_of}
+use Rattle.dt_terms.specs.declared.term.Term.{Term}
 use Rattle.dt_terms.specs.declared.term.Term.TheVariants.{Choice, Node}
 use Rattle.dt_terms.specs.Terms.{term_at}
 use Rattle.dt_terms.proofs.Placed.{placed}
 use Rattle.dt_box.specs.Cells.{cell_at}
-use Rattle.dt_box.specs.Fixed.{IsOperandNumber, Fixes}
+use Rattle.dt_box.specs.Fixed.{IsOperandNumber, IsOperatorValue, ComesTo, Fixes}
 use Rattle.dt_box.proofs.OwnValues.{cell_here, operand_value, operands_fit, fixes}
 use Rattle.dt_box.proofs.fixed.known_value.Goals as goal
 
@@ -134,5 +136,10 @@ returns-in_ok-third-in-Node g c =
     let x : IsOperandNumber ops n.op 0 (cell_at ops cells n.a) c.in_ok-first-in-Node.first = subst (λ d. IsOperandNumber ops n.op 0 d c.in_ok-first-in-Node.first) (cell_here D ops laws terms c.requires.terms cells h n.a c.index-cells-a.result p.a_in c.index-cells-a.is) c.in_ok-first-in-Node.ensures in
     let y : IsOperandNumber ops n.op 1 (cell_at ops cells n.b) c.in_ok-second-in-Node.second = subst (λ d. IsOperandNumber ops n.op 1 d c.in_ok-second-in-Node.second) (cell_here D ops laws terms c.requires.terms cells h n.b c.index-cells-b.result p.b_in c.index-cells-b.is) c.in_ok-second-in-Node.ensures in
     let z : IsOperandNumber ops n.op 2 (cell_at ops cells n.c) c.in_ok-third-in-Node.third = subst (λ d. IsOperandNumber ops n.op 2 d c.in_ok-third-in-Node.third) (cell_here D ops laws terms c.requires.terms cells h n.c c.index-cells-c.result p.c_in c.index-cells-c.is) c.in_ok-third-in-Node.ensures in
-    subst (Fixes ops terms cells c.args.node) (sym (ap (λ (v : Bv). v.bits) c.apply.ensures.value))
-    (fixes D ops laws terms c.requires.terms cells h c.args.node n.op n.a n.b n.c n.width c.requires.node e _ _ _ x y z)
+    let came : c.apply.result.bits ≡ value_of n.op c.in_ok-first-in-Node.first c.in_ok-second-in-Node.second c.in_ok-third-in-Node.third = ap (λ (v : Bv). v.bits) c.apply.ensures.value in
+    let own : IsOperatorValue ops cells n.op n.a n.b n.c c.apply.result.bits = record { first = c.in_ok-first-in-Node.first; second = c.in_ok-second-in-Node.second; third = c.in_ok-third-in-Node.third; first_is = x; second_is = y; third_is = z; value = sym came } in
+    record {
+      value = subst (λ (t : Term). ComesTo ops cells t c.apply.result.bits) (sym e) own;
+      fixes = subst (Fixes ops terms cells c.args.node) (sym came)
+          (fixes D ops laws terms c.requires.terms cells h c.args.node n.op n.a n.b n.c n.width c.requires.node e _ _ _ x y z);
+    }

@@ -1,7 +1,6 @@
 use Rattle.std.proofs.Common.{◌≡◌, drop, map}
-use Rattle.std.specs.List.{flat_map}
 use Rattle.dt_build.specs.Building.{claimed}
-use Rattle.dt_table.specs.Pairs.{apart_if, apart_forms}
+use Rattle.dt_table.specs.Pairs.{apart_forms}
 use Rattle.dt_claims.specs.Views.{spot, access_of}
 use Rattle.dt_claims.proofs.apart.require_pages_apart.Given as goal
 

@@ -1,4 +1,4 @@
-use Rattle.std.proofs.Common.{◌∙◌, List, map}
+use Rattle.std.proofs.Common.{◌∙◌, map}
 use Rattle.std.specs.List.{flat_map}
 use Rattle.std.proofs.lemmas.Result.{on_ok_weaker}
 use Rattle.dt_model.specs.ModelData.{data_of}
@@ -7,7 +7,6 @@ use Rattle.dt_table.specs.Kept.{kept_forms}
 use Rattle.dt_table.specs.Pairs.{apart_forms}
 use Rattle.dt_table.specs.Table.{page_forms, keep_forms}
 use Rattle.dt_claims.specs.Views.{spot, rows_of, access_of}
-use Rattle.dt_claims.specs.declared.spots.SpotOut.{SpotOut}
 use Rattle.dt_claims.proofs.Turns.{both_required}
 use Rattle.dt_claims.proofs.claims.require_blocks.Goals as goal
 

@@ -4,7 +4,7 @@ use Rattle.dt_model.specs.ModelData.{ActData}
 use Rattle.dt_build.specs.Building.{claimed}
 use Rattle.dt_table.specs.Claims.{ends_only}
 use Rattle.dt_claims.specs.Endings.{passes}
-use Rattle.dt_claims.proofs.Models.{model_steps}
+use Rattle.dt_ways.proofs.Models.{model_steps}
 use Rattle.dt_claims.proofs.ends.require_ends.Goals as goal
 
 pub returns : goal.returns

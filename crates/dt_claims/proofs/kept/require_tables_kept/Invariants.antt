@@ -3,7 +3,7 @@ use Rattle.std.specs.List.{flat_map}
 use Rattle.dt_build.specs.Building.{claimed}
 use Rattle.dt_table.specs.Kept.{kept_form}
 use Rattle.dt_table.specs.Spots.{only_if}
-use Rattle.dt_claims.specs.Views.{sized, spot, access_of}
+use Rattle.dt_claims.specs.Views.{spot, access_of}
 use Rattle.dt_claims.proofs.kept.require_tables_kept.Given as goal
 
 abbrev pub invariant-loop-table : goal.invariant-loop-table

@@ -3,7 +3,6 @@ use Rattle.std.specs.List.{flat_map}
 use Rattle.std.proofs.lemmas.Result.{on_ok_weaker}
 use Rattle.dt_model.specs.ModelData.{data_of}
 use Rattle.dt_model.specs.Faults.{steps}
-use Rattle.dt_terms.specs.Problem.{ProblemData}
 use Rattle.dt_forms.specs.Forms.{Form}
 use Rattle.dt_build.specs.Building.{claimed}
 use Rattle.dt_ways.specs.Ends.{ends_done}

@@ -3,7 +3,7 @@ use Rattle.dt_model.specs.ModelData.{ActData}
 use Rattle.dt_satisfy.specs.Links.{step_granule}
 use Rattle.dt_table.specs.declared.out.Out.{Out}
 use Rattle.dt_table.specs.Outs.{out_at}
-use Rattle.dt_claims.proofs.Models.{model_steps}
+use Rattle.dt_ways.proofs.Models.{model_steps}
 use Rattle.dt_claims.proofs.outs.side_at.Goals as goal
 
 pub returns : goal.returns

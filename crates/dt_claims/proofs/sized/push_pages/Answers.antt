@@ -3,7 +3,7 @@ use Rattle.std.specs.Prelude.{OnOk}
 use Rattle.dt_model.specs.ModelData.{ActData}
 use Rattle.dt_table.specs.Apart.{pages_at}
 use Rattle.dt_claims.specs.Views.{sized}
-use Rattle.dt_claims.proofs.Models.{model_steps}
+use Rattle.dt_ways.proofs.Models.{model_steps}
 use Rattle.dt_claims.proofs.sized.push_pages.Goals as goal
 
 pub returns : goal.returns

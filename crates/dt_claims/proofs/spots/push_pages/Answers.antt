@@ -5,7 +5,7 @@ use Rattle.dt_model.specs.Faults.{steps}
 use Rattle.dt_reach.specs.declared.ways.Ways.{Ways}
 use Rattle.dt_table.specs.Spots.{page_spots}
 use Rattle.dt_claims.specs.Views.{spot}
-use Rattle.dt_claims.proofs.Models.{model_steps}
+use Rattle.dt_ways.proofs.Models.{model_steps}
 use Rattle.dt_claims.proofs.spots.push_pages.Goals as goal
 
 pub returns : goal.returns

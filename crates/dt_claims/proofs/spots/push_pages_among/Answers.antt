@@ -1,9 +1,9 @@
-use Rattle.std.proofs.Common.{◌≡◌, map, refl}
+use Rattle.std.proofs.Common.{map}
 use Rattle.dt_table.specs.Outs.{no_out}
 use Rattle.dt_table.specs.Spots.{page_spots}
 use Rattle.dt_claims.specs.Steps.{page_spot}
 use Rattle.dt_claims.specs.Views.{spot}
-use Rattle.dt_claims.proofs.Steps.{page_spots_first, page_spots_none, spots_grown, spots_end, outs_end}
+use Rattle.dt_claims.proofs.Steps.{page_spots_first, page_spots_none, spots_grown, outs_end}
 use Rattle.dt_claims.proofs.spots.push_pages_among.Goals as goal
 
 pub loop-n-preserved : goal.loop-n-preserved

@@ -1,9 +1,9 @@
-use Rattle.std.proofs.Common.{◌≡◌, map, refl}
+use Rattle.std.proofs.Common.{map}
 use Rattle.dt_table.specs.Outs.{no_out}
 use Rattle.dt_table.specs.Spots.{read_spots}
 use Rattle.dt_claims.specs.Steps.{read_spot}
 use Rattle.dt_claims.specs.Views.{spot}
-use Rattle.dt_claims.proofs.Steps.{reads_first, reads_none, spots_grown, spots_end, outs_end}
+use Rattle.dt_claims.proofs.Steps.{reads_first, reads_none, spots_grown, outs_end}
 use Rattle.dt_claims.proofs.spots.push_reads_among.Goals as goal
 
 pub loop-n-preserved : goal.loop-n-preserved

@@ -1,7 +1,7 @@
 use Rattle.std.proofs.Common.{List, slice_get, sym, ap, ◌∙◌}
 use Rattle.dt_model.specs.ModelData.{ActData, data_of}
 use Rattle.dt_request.specs.Lists.{read_width, width_of}
-use Rattle.dt_claims.proofs.Models.{model_steps}
+use Rattle.dt_ways.proofs.Models.{model_steps}
 use Rattle.dt_claims.proofs.widths.width_of.Goals as goal
 
 pub returns-in-Word : goal.returns-in-Word

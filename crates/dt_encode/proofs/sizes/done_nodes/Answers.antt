@@ -5,7 +5,8 @@ use Rattle.dt_model.specs.ModelData.{act_of}
 use Rattle.dt_model.specs.Accepted.{accepted_data}
 use Rattle.dt_model.specs.Faults.{is_done}
 use Rattle.dt_table.specs.Sizes.{done_nodes}
-use Rattle.dt_encode.proofs.Small.{small_is, count_seen}
+use Rattle.dt_table.proofs.Small.{small_is}
+use Rattle.dt_encode.proofs.Small.{count_seen}
 use Rattle.dt_encode.proofs.sizes.done_nodes.Goals as goal
 
 pub returns : goal.returns

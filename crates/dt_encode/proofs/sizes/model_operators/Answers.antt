@@ -7,7 +7,8 @@ use Rattle.dt_model.specs.ModelData.{ModelData, tree_of, act_of, data_of}
 use Rattle.dt_model.specs.Accepted.{accepted_data}
 use Rattle.dt_model.specs.Widths.{operators}
 use Rattle.dt_model.specs.Faults.{step_operators, rule_operators, node_operators}
-use Rattle.dt_encode.proofs.Small.{small_is, rules_seen, nodes_seen}
+use Rattle.dt_table.proofs.Small.{small_is}
+use Rattle.dt_encode.proofs.Small.{rules_seen, nodes_seen}
 use Rattle.dt_encode.proofs.sizes.model_operators.Goals as goal
 
 -- the sums that the code makes are those of the model

@@ -1,16 +1,10 @@
-use Rattle.std.proofs.Common.{◌≡◌, ℕ, List, [], ◌∷◌, ◌++◌, length, map, reverse, replicate, true, Option, sym, ap, ◌∙◌, subst, arith, refl}
-use Rattle.std.specs.Prelude.{IfSome}
+use Rattle.std.proofs.Common.{◌≡◌, ℕ, List, [], ◌∷◌, ◌++◌, length, map, replicate, true, sym, ap, ◌∙◌, subst, arith, refl}
 use Rattle.dt_terms.specs.Problem.{IsProblem}
-use Rattle.dt_box.specs.Stillness.{IsSettled}
 use Rattle.dt_log.specs.declared.line.Line.TheVariants.{Loose, Unvisited}
 use Rattle.dt_log.specs.Trees.{try_line}
 use Rattle.dt_check.specs.declared.pending.Pending.{Pending}
-use Rattle.dt_check.specs.Waiting.{IsNext, IsBegun}
 use Rattle.dt_check.proofs.Trying.{trial_kept}
-use Rattle.dt_propagate.specs.declared.settling.Settled.{Settled}
-use Rattle.dt_propagate.specs.Settling.{IsEnd}
 use Rattle.dt_solve.specs.Searching.{IsRead}
-use Rattle.dt_solve.proofs.Moves.{moved, closed, begun, refuted, begins}
 use Rattle.dt_solve.proofs.Fails.{spent, splits_on, not_known, no_aim, are_aim}
 use Rattle.dt_solve.proofs.turning.try_or_split.Goals as goal
 

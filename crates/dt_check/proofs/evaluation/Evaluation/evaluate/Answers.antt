@@ -38,4 +38,5 @@ returns c =
           ∙ ap (λ (ms : List Bool). get_or ms n false) c.unmark.ensures
           ∙ none_before old u n (omega (arith, c.requires.term, are.marks_count)) c.requires.before l;
       choices = λ t k. ap (λ (xs : List ℕ). get_or xs t 0) c.set_value.ensures.values ∙ choices_kept terms values u v t (omega (arith, c.requires.term, are.count)) e k;
+      failed = c.set_value.ensures.failed;
     }

@@ -11,6 +11,7 @@ invariant-terms l = record {
   seen_to : AreSeenTo l.problem.terms l.self.values.items l.self.marks.marks.items;
   before : HasNone l.self.marks.marks.items 0 l.from;
   choices : (t : ℕ) → is_choice (term_at l.problem.terms t) ≡ true → get_or l.self.values.items t 0 ≡ get_or l.fn.self.values.items t 0;
+  failed : l.self.failed ≡ l.fn.self.failed;
 }
 
 abbrev pub decreases-terms : goal.decreases-terms

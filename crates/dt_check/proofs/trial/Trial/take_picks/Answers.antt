@@ -35,7 +35,7 @@ pub returns-clause-trying : goal.returns-clause-trying
 returns-clause-trying g c = record {
   watches = c.choices.invariant.trying.watches;
   seen_to = c.choices.invariant.trying.seen_to;
-  picked = subst (λ (ms : List Bool). ArePicked g.D.Domain.ops c.args.problem.now.terms c.args.cells.now ms c.choices.self.evaluation.values.items) (sym c.clear.ensures) c.choices.invariant.trying.picked;
+  picked = subst (λ (ms : List Bool). ArePicked g.D.Domain.ops c.args.problem.now.terms c.args.cells.now ms c.choices.self.evaluation.values.items) (sym c.clear.ensures.marks) c.choices.invariant.trying.picked;
 }
 
 pub returns-clause-numbers : goal.returns-clause-numbers

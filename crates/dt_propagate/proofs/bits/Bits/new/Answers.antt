@@ -1,6 +1,6 @@
 use Rattle.std.proofs.Common.{◌≡◌, ◌+◌, ◌/◌, List, ℕ, replicate, sym, subst, arith, rules}
 use Rattle.dt_propagate.specs.Marks.{AreCovered}
-use Rattle.dt_propagate.proofs.Marking.{covered_new}
+use Rattle.dt_propagate.proofs.Marking.{covered_new, top_is}
 use Rattle.dt_propagate.proofs.bits.Bits.new.Goals as goal
 
 pub invariant_of-result : goal.invariant_of-result
@@ -11,5 +11,5 @@ invariant_of-result c =
     let f : c.in_ok-vec-2.field-0.items ≡ replicate m c.top_of.result = c.in_ok-vec-2.ensures.items_if_clones_equal (λ y h. search rules) in
     record {
       covered = subst (λ (ws : List ℕ). AreCovered ws c.in_ok-vec-2.field-0.items) (sym e)
-          (subst (λ (ts : List ℕ). AreCovered (replicate n c.args.word) ts) (sym f) (covered_new n m c.args.word c.top_of.result (omega arith) (omega arith) c.top_of.ensures));
+          (subst (λ (ts : List ℕ). AreCovered (replicate n c.args.word) ts) (sym f) (covered_new n m c.args.word c.top_of.result (omega arith) (omega arith) (top_is c.args.word c.top_of.result c.top_of.ensures)));
     }
