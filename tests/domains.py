@@ -1,12 +1,12 @@
 #!/usr/bin/env python3
-"""Works out the answers of the three domains for a table of cases, apart from the program.
+"""Works out the answers of the five domains for a table of cases, apart from the program.
 
     python3 tests/domains.py crates/dt_domain_table
 
 writes the cases to its `stdin` and the wanted answers to its `stdout`. Known bits go bit by bit,
 intervals by formulas on whole numbers, and the least and the greatest number that both hold are
-found by trying all numbers up to a width of 8, and else bit by bit from the top. Each answer is
-also tried for what every domain owes: no value that the operands can give is lost.
+found by trying all numbers up to a width of 8, and else bit by bit from the top. What listed numbers
+give is found by trying all selections of them. Each answer is also tried for what every domain owes: no value that the operands can give is lost.
 """
 import random
 import sys
@@ -421,13 +421,95 @@ def split(ps):
     return [parts(p)[0] for p in ps], [parts(p)[1] for p in ps]
 
 
+# ---- listed numbers: None for all numbers where they aren't listed, else a rising list
+
+CAPACITY = 8
+SELECTIONS = 64
+
+
+def s_full(w):
+    return list(range(1 << w)) if w <= 3 else None
+
+
+def s_few(ss):
+    """Whether the used operands list their numbers, and have few selections."""
+    n = 1
+    for s in ss:
+        if s is None:
+            return False
+        n *= len(s)
+    return n <= SELECTIONS
+
+
+def selections(ss):
+    """All selections of numbers, with 0 for an operand that isn't used."""
+    a, b, c = ss + [[0]] * (3 - len(ss))
+    return [(x, y, z) for x in a for y in b for z in c]
+
+
+def s_forward(op, p, ws, ss):
+    used, out = ss[:arity(op)], result_width(op, p, ws)
+    if [] in used:
+        return []
+    if not s_few(used):
+        return s_full(out)
+    values = sorted(set(value(op, p, ws, list(xs)) for xs in selections(used)))
+    return values if len(values) <= CAPACITY else s_full(out)
+
+
+def s_backward(op, p, ws, ss, r, place):
+    used = ss[:arity(op)]
+    if r == [] or [] in used:
+        return []
+    if r is None or not s_few(used):
+        return s_full(ws[place])
+    return sorted(set(xs[place] for xs in selections(used) if value(op, p, ws, list(xs)) in r))
+
+
+def s_meet(s, t):
+    return t if s is None else s if t is None else [x for x in s if x in t]
+
+
+def s_with_bit(s, i, v):
+    return s if s is None else [x for x in s if x >> i & 1 == v]
+
+
+# ---- all three: a pair and listed numbers, each as narrow as the other makes it
+
+def reduced(pair, s, w):
+    if s is None:
+        return (None, []) if pair is None else (pair, None)
+    xs = [] if pair is None else [x for x in s if agrees(x, pair[0]) and pair[1][0] <= x <= pair[1][1]]
+    if not xs:
+        return (None, [])
+    bits = [b if all(x >> i & 1 == b for x in xs) else None for i, b in enumerate(bits_of(xs[0], w))]
+    return ((bits, (xs[0], xs[-1])), xs)
+
+
+def pairs(ts):
+    return [t[0] for t in ts]
+
+
+def lists(ts):
+    return [t[1] for t in ts]
+
+
 # ---- cases
+
+def listed(s):
+    xs = [] if s is None else s
+    return "%d %s" % (CAPACITY + 1 if s is None else len(s), " ".join(map(str, xs + [0] * (CAPACITY - len(xs)))))
+
 
 def show(domain, d, w):
     if domain == "known":
         return "%d %d %d %d" % ((w,) + known_words(d, w))
     if domain == "range":
         return "%d %d %d" % ((w,) + ((1, 0) if d is None else d))
+    if domain == "sets":
+        return "%d %s" % (w, listed(d))
+    if domain == "triple":
+        return "%s %s" % (show("pair", d[0], w), listed(d[1]))
     k, r = parts(d)
     return "%s %d %d" % (("%d %d %d" % ((w,) + known_words(k, w)[:2])), *((1, 0) if r is None else r))
 
@@ -453,7 +535,25 @@ def some_range(w, x=None):
     return (lo, hi)
 
 
+def some_sets(w, x=None):
+    kind = random.random()
+    if kind < 0.06:
+        return []
+    if kind < 0.25:
+        return s_full(w)
+    xs = set() if x is None else {x}
+    for _ in range(random.choice([1, 2, 2, 3, 4, 5, 8])):
+        y = random.getrandbits(w)
+        near = x is not None and random.random() < 0.5
+        xs.add(x ^ 1 << random.randrange(w) if near else y)
+    return sorted(xs)[:CAPACITY]
+
+
 def some(domain, w, x=None):
+    if domain == "sets":
+        return some_sets(w, x)
+    if domain == "triple":
+        return reduced(some("pair", w, x), some_sets(w, x), w)
     if domain == "known":
         return some_known(w, x)
     if domain == "range":
@@ -466,6 +566,11 @@ def forward(domain, op, p, ws, ds):
         return k_forward(op, p, ws, ds)
     if domain == "range":
         return r_forward(op, p, ws, ds)
+    if domain == "sets":
+        return s_forward(op, p, ws, ds)
+    if domain == "triple":
+        return reduced(forward("pair", op, p, ws, pairs(ds)), s_forward(op, p, ws, lists(ds)),
+                       result_width(op, p, ws))
     ks, rs = split(ds)
     return normal(k_forward(op, p, ws, ks), r_forward(op, p, ws, rs), result_width(op, p, ws))
 
@@ -475,12 +580,21 @@ def backward(domain, op, p, ws, ds, r, place):
         return k_backward(op, p, ws, ds, r, place)
     if domain == "range":
         return r_backward(op, p, ws, ds, r, place)
+    if domain == "sets":
+        return s_backward(op, p, ws, ds, r, place)
+    if domain == "triple":
+        return reduced(backward("pair", op, p, ws, pairs(ds), r[0], place),
+                       s_backward(op, p, ws, lists(ds), r[1], place), ws[place])
     ks, rs = split(ds)
     rk, rr = parts(r)
     return normal(k_backward(op, p, ws, ks, rk, place), r_backward(op, p, ws, rs, rr, place), ws[place])
 
 
 def holds(domain, d, x):
+    if domain == "sets":
+        return d is None or x in d
+    if domain == "triple":
+        return holds("pair", d[0], x) and holds("sets", d[1], x)
     if d is None:
         return False
     if domain == "known":
@@ -546,6 +660,34 @@ def line(domain, op, place, p, ws, ds, out, r):
     return "%s %s %d %d %d %s" % (domain, op, place, p[0], p[1], " ".join(shown))
 
 
+NOTHING = {"known": None, "range": None, "pair": None, "sets": [], "triple": (None, [])}
+
+
+def meet(domain, a, b, w):
+    if domain == "known":
+        return k_meet(a, b)
+    if domain == "range":
+        return r_meet(a, b)
+    if domain == "sets":
+        return s_meet(a, b)
+    if domain == "triple":
+        return reduced(meet("pair", a[0], b[0], w), s_meet(a[1], b[1]), w)
+    return normal(k_meet(parts(a)[0], parts(b)[0]), r_meet(parts(a)[1], parts(b)[1]), w)
+
+
+def with_bit(domain, a, w, i, v):
+    one = [v if j == i else None for j in range(w)]
+    if domain == "known":
+        return k_meet(a, one)
+    if domain == "range":
+        return r_with_bit(a, w, i, v)
+    if domain == "sets":
+        return s_with_bit(a, i, v)
+    if domain == "triple":
+        return reduced(with_bit("pair", a[0], w, i, v), s_with_bit(a[1], i, v), w)
+    return normal(k_meet(parts(a)[0], one), parts(a)[1], w)
+
+
 def cases(domain):
     for w in (1, 4, 64, 127, 128):
         for op in OPS:
@@ -556,7 +698,7 @@ def cases(domain):
                 out = result_width(op, p, ws)
                 f = forward(domain, op, p, ws, ds)
                 check(domain, op, p, ws, ds, None, 3, f)
-                yield line(domain, op, 3, p, ws, ds, out, None), show(domain, f, out)
+                yield line(domain, op, 3, p, ws, ds, out, NOTHING[domain]), show(domain, f, out)
                 for place in range(arity(op)):
                     xs = [d for d in ds]
                     y = random.getrandbits(out)
@@ -569,19 +711,12 @@ def cases(domain):
                     yield line(domain, op, place, p, ws, xs, out, r), show(domain, b, ws[place])
         for _ in range(6):
             a, b = operands(domain, "meet", [w, w])
-            met = (k_meet(a, b) if domain == "known" else r_meet(a, b) if domain == "range" else
-                   normal(k_meet(parts(a)[0], parts(b)[0]), r_meet(parts(a)[1], parts(b)[1]), w))
+            met = meet(domain, a, b, w)
             yield line(domain, "meet", 0, [0, 0], [w, w, w], [a, b, b], w, b), show(domain, met, w)
             i, v = random.randrange(w), random.randrange(2)
             if random.random() < 0.5:
                 i = w - 1
-            one = [v if j == i else None for j in range(w)]
-            if domain == "known":
-                got = k_meet(a, one)
-            elif domain == "range":
-                got = r_with_bit(a, w, i, v)
-            else:
-                got = normal(k_meet(parts(a)[0], one), parts(a)[1], w)
+            got = with_bit(domain, a, w, i, v)
             yield line(domain, "with_bit", 0, [i, v], [w, w, w], [a, a, a], w, a), show(domain, got, w)
 
 
@@ -597,7 +732,7 @@ def tested_search():
 def main():
     tested_search()
     asked, wanted = [], []
-    for domain in ("known", "range", "pair"):
+    for domain in ("known", "range", "pair", "sets", "triple"):
         for a, b in cases(domain):
             asked.append(a)
             wanted.append(b)

@@ -13,7 +13,7 @@ use dt_pair::Pair;
 use std::io;
 
 /// The pair at a place, in normal form.
-fn pair_at(given: &[u128], at: usize) -> Option<Pair>
+pub fn pair_at(given: &[u128], at: usize) -> Option<Pair>
     ensures { IfSome result IsPair }
 {
     if at > 100 {

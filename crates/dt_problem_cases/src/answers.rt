@@ -15,6 +15,7 @@ fn push_answer(alloc: Global, call: &str, case: Case, out: &mut String) -> Resul
         "check known" => logs::answered(alloc, "known", case, out),
         "check range" => logs::answered(alloc, "range", case, out),
         "check pair" => logs::answered(alloc, "pair", case, out),
+        "check triple" => logs::answered(alloc, "triple", case, out),
         "search known" => searches::answered(alloc, "known", case, out),
         "search pair" => searches::answered(alloc, "pair", case, out),
         "search triple" => searches::answered(alloc, "triple", case, out),

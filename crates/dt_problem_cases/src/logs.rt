@@ -1,4 +1,4 @@
-//! Logs of problems, and what the checker says of them over known bits, ranges or pairs: `closed S`,
+//! Logs of problems, and what the checker says of them over known bits, ranges, pairs or triples: `closed S`,
 //! `open S`, or `refused item I CAUSE`; of a text that is no log, which line or item is wrong, and why.
 //! `*N TEXT` in a case writes a long log.
 
@@ -11,6 +11,7 @@ use dt_log::{Log, LogFault, print_log, read_log};
 use dt_pair::Pair;
 use dt_range::Range;
 use dt_script::Case;
+use dt_sets::Triple;
 use dt_terms::Problem;
 use std::alloc::{AllocError, Global};
 use std::str;
@@ -72,6 +73,7 @@ pub fn answered(alloc: Global, domain: &str, case: Case, out: &mut String) -> Re
     match domain {
         "known" => push_checked::<Known>(alloc, &problem, &log, out),
         "range" => push_checked::<Range>(alloc, &problem, &log, out),
+        "triple" => push_checked::<Triple>(alloc, &problem, &log, out),
         _ => push_checked::<Pair>(alloc, &problem, &log, out),
     }
 }

@@ -9,7 +9,7 @@
 //! | `trail` | `problem`, `steps`, `undo N` | the same with a trail, and what undoing gives, see `trails` |
 //! | `users` | `problem` | for each term `users`, and the nodes that use it |
 //! | `log` | `log` | its printed text, or which line or item is wrong, and why |
-//! | `check known`, `check range`, `check pair` | `problem`, `log` | what the checker says over this domain, see `logs` |
+//! | `check known`, `check range`, `check pair`, `check triple` | `problem`, `log` | what the checker says over this domain, see `logs` |
 //! | `search known`, `search pair`, `search triple` | `problem`, `limit N`, `aim N..` | what a search answers over this domain, see `searches` |
 //!
 //! Proved: each call is made where its conditions hold, and the program ends. Only tested: all else,
