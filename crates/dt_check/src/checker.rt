@@ -35,9 +35,9 @@ pub(crate) enum Finding {
 }
 
 /// Where the checker stands between two items of a log: the cells of the tree that is read, what they
-/// were before, the right trees that wait, the latest split last, how many splits there were, whether
-/// there was an end that was left, and how long the trail was when the cells were last seen to be
-/// settled.
+/// were before, from the first split on, the right trees that wait, the latest split last, how many
+/// splits there were, whether there was an end that was left, and how long the trail was when the cells
+/// were last seen to be settled.
 #[derive(Drop)]
 pub(crate) struct Checker<D: Domain> {
     cells: Cells<D>,
@@ -96,7 +96,7 @@ impl<D: Domain> Checker<D> {
         self.trail.len() == 0 && self.pending.len() == 0 && self.settled.is_none()
     }
 
-    // What is found at a step. What its target's cell was is kept in the trail, once a split was read.
+    // What is found at a step. From the first split on, the trail keeps what its target's cell was.
     fn read_step(
         &mut self,
         problem: &Problem,

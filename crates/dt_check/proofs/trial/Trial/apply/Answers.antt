@@ -1,6 +1,6 @@
 use Rattle.std.proofs.Common.{◌≡◌, ◌<◌, [], length, set, refl, ap, sym, subst, ◌∙◌}
 use Rattle.dt_terms.specs.Terms.{AreTerms}
-use Rattle.dt_box.specs.Steps.{target, narrowed}
+use Rattle.dt_box.specs.Steps.{narrowed}
 use Rattle.dt_box.specs.Trails.{back}
 use Rattle.dt_box.proofs.Steps.{step_narrows}
 use Rattle.dt_check.specs.Trying.{ArePicked}
