@@ -1,6 +1,7 @@
 -- The state of the checker, item by item.
-use Rattle.std.proofs.Common.{◌≡◌, ℕ, ◌+◌, ◌<◌, ◌≤◌, true, false, List, [], ◌∷◌, ◌++◌, length, take, reverse, Option, Some, None, sym, ap, ◌∙◌, subst, arith}
-use Rattle.std.specs.Prelude.{All}
+use Rattle.std.proofs.Common.{◌≡◌, ℕ, ◌+◌, ◌<◌, ◌≤◌, Bool, true, false, eqb, refl, List, [], ◌∷◌, ◌++◌, length, take, reverse, Option, Some, None, sym, ap, ◌∙◌, subst, arith}
+use Rattle.std.specs.Prelude.{All, is_none}
+use Rattle.std.proofs.lemmas.Bool.{and_parts, eqb-true, false≢true}
 use Rattle.std.proofs.lemmas.List.{length-take-le}
 use Rattle.std.proofs.lemmas.List.Elements.{All-take, All-nil}
 use Rattle.dt_lemmas.proofs.Equalities.{two}
@@ -13,7 +14,7 @@ use Rattle.dt_box.specs.Cells.{AreCells}
 use Rattle.dt_box.specs.Steps.{after_step, after_bit}
 use Rattle.dt_box.specs.Stillness.{IsSettled}
 use Rattle.dt_box.specs.Trails.{back, IsKept}
-use Rattle.dt_box.proofs.Trails.{kept_back, back_twice, back_whole}
+use Rattle.dt_box.proofs.Trails.{kept_none, kept_back, back_twice, back_whole}
 use Rattle.dt_log.specs.declared.line.Line.TheVariants.{Split, Close, Loose, Unvisited}
 use Rattle.dt_log.specs.declared.line.Claim.{Claim}
 use Rattle.dt_log.specs.declared.line.Claim.TheVariants.{Impossible, Budget}
@@ -23,9 +24,22 @@ use Rattle.dt_check.specs.declared.checker.Finding.TheVariants.{Passed, Ended, R
 use Rattle.dt_check.specs.Accepting.{SplitTrial}
 use Rattle.dt_check.specs.Reading.{reading, close_cause, split_cause, split_trial, loose_cause, unvisited_cause, step_cause}
 use Rattle.dt_check.specs.Waiting.{waiting, Stacked, CanBegin, AtSplits, IsNext, IsBegun}
-use Rattle.dt_check.specs.Checking.{State, state, left, WasSettled, settled_at, UnderBudget, IsSplitAt, IsState, IsTreeEnded, IsFound, step_line}
+use Rattle.dt_check.specs.Checking.{State, state, left, WasSettled, is_first, IsKeptAt, settled_at, UnderBudget, IsSplitAt, IsState, IsTreeEnded, IsFound, step_line}
 use Rattle.dt_check.proofs.Passing.{split_passed, split_trial_passed}
 use Rattle.dt_check.proofs.Waiting.{stacked_more, waiting_kept, turned}
+
+empty : {X : Type 0} (xs : List X) → length xs ≡ 0 → xs ≡ []
+empty [] e = refl
+empty (x ∷ xs) e = absurd (omega (arith, e))
+
+none : {X : Type 0} (o : Option X) → is_none o ≡ true → o ≡ None
+none None e = refl
+none (Some x) e = absurd (false≢true e)
+
+-- where nothing changes, nothing is kept
+pub kept_same : {D : Type 0} (cells : List D) (trail : List (ℕ × D)) (first : Bool) → IsKeptAt first cells trail cells trail
+kept_same cells trail true = refl
+kept_same cells trail false = kept_none cells trail
 
 module _ (D : Type 0) (ops : DomainOps D) where
   splits_same : (P : List D → Pending → Type 0) (c d : List D) (s t : List (ℕ × D)) (n : ℕ) (qs : List Pending) → Stacked n qs → ((m : ℕ) → m ≤ n → back c s m ≡ back d t m)
@@ -54,6 +68,13 @@ module _ (D : Type 0) (ops : DomainOps D) where
       → WasSettled ops terms cells trail (settled_at claim n)
   was_at terms Impossible cells trail n l h = tt
   was_at terms (Budget limit) cells trail n l h = (l, h)
+
+  -- before the first split
+  pub first_parts : (s : State D) → is_first s ≡ true → (s.trail ≡ []) × (s.pending ≡ []) × (s.settled ≡ None)
+  first_parts s e =
+      let p = and_parts (eqb (length s.trail) 0) _ e in
+      let q = and_parts (eqb (length s.pending) 0) _ p.1 in
+      (empty s.trail (eqb-true _ _ p.0), empty s.pending (eqb-true _ _ q.0), none s.settled q.1)
 
   -- after changes that were kept
   pub state_kept : (terms : List Term) (claim : Claim) (s : State D) (new : List D) (longer : List (ℕ × D)) → IsState ops terms claim s → AreCells ops terms new → IsKept s.cells s.trail new longer
@@ -87,6 +108,32 @@ module _ (D : Type 0) (ops : DomainOps D) where
         (c, two (λ x y. reading (x ∷ y) [] s.splits s.opened) e (waiting_kept D ops s.cells s.trail new longer (reverse s.pending) k h.stacked), state_kept p.terms claim s new longer h a k)
     step_found (steps.Backward u i) s new longer h c e a k =
         (c, two (λ x y. reading (x ∷ y) [] s.splits s.opened) e (waiting_kept D ops s.cells s.trail new longer (reverse s.pending) k h.stacked), state_kept p.terms claim s new longer h a k)
+
+    -- a step before the first split, of which nothing is kept
+    pub first_found : (step : Step) (s : State D) (new : List D) → IsState ops p.terms claim s → step_cause p.terms step ≡ None
+        → new ≡ after_step ops p.terms step s.cells → AreCells ops p.terms new → is_first s ≡ true
+        → IsFound ops p claim (step_line step) [] s Passed (state new s.trail s.pending s.splits s.opened s.settled)
+    first_found step s new h c e a f = by_step step c e
+      where
+        qs : s.pending ≡ []
+        qs = (first_parts s f).1
+
+        waits : waiting ops new s.trail (reverse s.pending) ≡ waiting ops s.cells s.trail (reverse s.pending)
+        waits = ap (λ q. waiting ops new s.trail (reverse q)) qs ∙ sym (ap (λ q. waiting ops s.cells s.trail (reverse q)) qs)
+
+        still : IsState ops p.terms claim (state new s.trail s.pending s.splits s.opened s.settled)
+        still = record {
+          cells_are = a;
+          within = subst (λ n. All (λ (change : ℕ × D). change.0 < n) s.trail) (h.cells_are.count ∙ sym a.count) h.within;
+          stacked = h.stacked;
+          splits_at = subst (λ q. AtSplits (IsSplitAt ops p.terms claim) new s.trail (reverse q)) (sym qs) tt;
+          settled = subst (WasSettled ops p.terms new s.trail) (sym (first_parts s f).2) tt;
+        }
+
+        by_step : (step : Step) → step_cause p.terms step ≡ None → new ≡ after_step ops p.terms step s.cells
+            → IsFound ops p claim (step_line step) [] s Passed (state new s.trail s.pending s.splits s.opened s.settled)
+        by_step (steps.Forward t) c e = (c, two (λ x y. reading (x ∷ y) [] s.splits s.opened) e waits, still)
+        by_step (steps.Backward u i) c e = (c, two (λ x y. reading (x ∷ y) [] s.splits s.opened) e waits, still)
 
     trial_settled : (claim : Claim) (cells : List D) (tries : List (ℕ × ℕ)) → SplitTrial ops p claim cells tries → UnderBudget claim (IsSettled ops p.terms cells)
     trial_settled Impossible cells tries h = tt

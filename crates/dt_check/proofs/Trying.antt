@@ -1,5 +1,5 @@
 -- The numbers of a trial follow the picks of the cells.
-use Rattle.std.proofs.Common.{◌≡◌, ◌≢◌, ℕ, ◌+◌, ◌^◌, ◌<◌, ◌≤◌, Bool, true, false, cond, ◌⊎◌, inl, inr, ⊎_elim, List, length, take, replicate, get_or, set, refl, sym, ap, ◌∙◌, subst, arith, length-set, get_or-set_same, get_or-set_other}
+use Rattle.std.proofs.Common.{◌≡◌, ◌≢◌, ℕ, ◌+◌, ◌^◌, ◌<◌, ◌≤◌, Bool, true, false, cond, ◌⊎◌, inl, inr, ⊎_elim, List, [], ◌∷◌, length, take, replicate, get_or, set, refl, sym, ap, ◌∙◌, subst, arith, length-set, get_or-set_same, get_or-set_other}
 use Rattle.std.specs.Prelude.{All, Result, Ok, Err, OnOk, unwrap_or}
 use Rattle.std.proofs.lemmas.Bool.{cases_Bool, cases_eq, cases_lt, false≢true}
 use Rattle.std.proofs.lemmas.List.{get_or_past, get_or-map, length-replicate, get_or-replicate}
@@ -214,6 +214,22 @@ module _ (D : Type 0) (ops : DomainOps D) (terms : List Term) where
       → OnOk r (IsTrial ops terms new longer trial)
   trial_kept_ok cells new trail longer trial (Ok x) k h = trial_kept cells new trail longer trial k h
   trial_kept_ok cells new trail longer trial (Err e) k h = tt
+
+  -- after a change of a cell of which nothing was kept, where it is noted
+  pub picked_noted : (cells : List D) (trail : List (ℕ × D)) (trial : Trial) (t : ℕ) (d : D) (marks : List Bool) → trail ≡ [] → t < length terms
+      → marks ≡ cond (is_choice (term_at terms t)) (set trial.changed.marks.items t true) trial.changed.marks.items → IsTrial ops terms cells trail trial
+      → ArePicked ops terms (back (set cells t d) trail trial.seen) marks trial.evaluation.values.items
+  picked_noted cells trail trial t d marks none l e h =
+      subst (λ ms. ArePicked ops terms (back (set cells t d) trail trial.seen) ms trial.evaluation.values.items) (sym e)
+      (picked_moved (back cells trail trial.seen) (back (set cells t d) trail trial.seen) old _ trial.evaluation.values.items (t ∷ []) 0 1 h.picked
+      (noted_more terms (t ∷ []) 0 0 t old old (omega (arith, l, h.picked.count)) refl (noted_none terms (t ∷ []) 0 old))
+      (λ u f. ap (λ ds. cell_at ops ds u) (whole cells) ∙ sym (get_or-set_other cells t u d (ops.full (width 1)) (λ g. f 0 (omega arith) (omega arith) (sym g))) ∙ sym (ap (λ ds. cell_at ops ds u) (whole (set cells t d)))))
+    where
+      old : List Bool
+      old = trial.changed.marks.items
+
+      whole : (ds : List D) → back ds trail trial.seen ≡ ds
+      whole ds = ap (back ds trail) (omega (arith, h.seen, ap length none)) ∙ back_whole ds trail
 
   -- the choices whose cells changed are noted, up to now
   pub picked_now : (cells : List D) (trail : List (ℕ × D)) (trial : Trial) (new : List Bool) → IsTrial ops terms cells trail trial

@@ -1,5 +1,5 @@
 -- Where the checker stands between two items, and what it finds at one.
-use Rattle.std.specs.Prelude.{◌≡◌, ℕ, ◌<◌, ◌≤◌, Bool, true, Option, Some, None, List, [], ◌∷◌, ◌++◌, length, reverse, All}
+use Rattle.std.specs.Prelude.{◌≡◌, ℕ, ◌<◌, ◌≤◌, Bool, true, false, ◌==◌, ◌&&◌, is_none, Option, Some, None, List, [], ◌∷◌, ◌++◌, length, reverse, All}
 use Rattle.dt_domain.specs.Domain.{DomainOps}
 use Rattle.dt_terms.specs.declared.term.Term.{Term}
 use Rattle.dt_terms.specs.Problem.{ProblemData}
@@ -7,7 +7,7 @@ use Rattle.dt_box.specs.Cells.{AreCells}
 use Rattle.dt_box.specs.Stillness.{IsSettled}
 use Rattle.dt_box.specs.declared.step.Step.{Step}
 use Rattle.dt_box.specs.declared.step.Step.TheVariants as steps
-use Rattle.dt_box.specs.Trails.{back}
+use Rattle.dt_box.specs.Trails.{back, IsKept}
 use Rattle.dt_log.specs.declared.line.Line.{Line}
 use Rattle.dt_log.specs.declared.line.Line.TheVariants.{Forward, Backward, Try, Split, Close, Loose, Unvisited}
 use Rattle.dt_log.specs.declared.line.Claim.{Claim}
@@ -56,6 +56,16 @@ left s = state s.cells s.trail s.pending s.splits true s.settled
 abbrev pub WasSettled : {D : Type 0} → DomainOps D → List Term → List D → List (ℕ × D) → Option ℕ → Type 0
 WasSettled ops terms cells trail None = Unit {0}
 WasSettled ops terms cells trail (Some n) = (n ≤ length trail) × IsSettled ops terms (back cells trail n)
+
+-- no split was read yet: no change is kept, no right tree waits, and it isn't known that the cells were
+-- settled
+abbrev pub is_first : {D : Type 0} → State D → Bool
+is_first s = (length s.trail == 0) && ((length s.pending == 0) && is_none s.settled)
+
+-- before the first split the trail stays as it is; afterwards changes are kept in it
+abbrev pub IsKeptAt : {D : Type 0} → Bool → List D → List (ℕ × D) → List D → List (ℕ × D) → Type 0
+IsKeptAt true old trail new longer = longer ≡ trail
+IsKeptAt false old trail new longer = IsKept old trail new longer
 
 -- where the cells are known to be settled, after a split at this length of the trail
 abbrev pub settled_at : Claim → ℕ → Option ℕ

@@ -35,9 +35,9 @@ pub(crate) enum Finding {
 }
 
 /// Where the checker stands between two items of a log: the cells of the tree that is read, what they
-/// were before, the right trees that wait, the latest split last, how many splits there were, whether
-/// there was an end that was left, and how long the trail was when the cells were last seen to be
-/// settled.
+/// were before, from the first split on, the right trees that wait, the latest split last, how many
+/// splits there were, whether there was an end that was left, and how long the trail was when the cells
+/// were last seen to be settled.
 #[derive(Drop)]
 pub(crate) struct Checker<D: Domain> {
     cells: Cells<D>,
@@ -56,9 +56,8 @@ impl<D: Domain> Checker<D> {
     ghost use Rattle.dt_log.specs.declared.line.Line.TheVariants.{Try, Split, Close, Loose, Unvisited};
     ghost use Rattle.dt_box.specs.Cells.{AreCells};
     ghost use Rattle.dt_check.specs.Reading.{at_first, trial_cause, split_cause, split_trial, loose_cause};
-    ghost use Rattle.dt_check.specs.Checking.{state_of, left, reading_at, WasSettled, IsState, IsTreeEnded, IsFound, step_line};
+    ghost use Rattle.dt_check.specs.Checking.{state_of, left, reading_at, WasSettled, is_first, IsKeptAt, IsState, IsTreeEnded, IsFound, step_line};
     ghost use Rattle.dt_check.specs.Trying.{IsTrial};
-    ghost use Rattle.dt_box.specs.Trails.{IsKept};
 
     /// The checker before the first item, at the root cells.
     pub(crate) fn new(alloc: Global, problem: &Problem) -> Result<Checker<D>, NoMemory>
@@ -90,25 +89,37 @@ impl<D: Domain> Checker<D> {
         self.opened
     }
 
-    // What is found at a step.
+    // Whether no split was read yet: then there is nothing to go back to.
+    fn is_first(&self) -> bool
+        ensures { result ≡ is_first (state_of self.now) }
+    {
+        self.trail.len() == 0 && self.pending.len() == 0 && self.settled.is_none()
+    }
+
+    // What is found at a step. From the first split on, the trail keeps what its target's cell was.
     fn read_step(
         &mut self,
         problem: &Problem,
+        trial: &mut Trial,
         claim: Claim,
         step: Step,
     ) -> Result<Finding, NoMemory>
         requires state { IsState D.ops problem.now.terms claim (state_of self.old) }
+        requires trial { IsTrial D.ops problem.now.terms self.old.cells self.old.trail trial.old }
         ensures found { IfOk result (λ finding. IsFound D.ops problem.now claim (step_line step) [] (state_of self.old) finding (state_of self.new)) }
         ensures splits { self.new.splits ≡ self.old.splits }
-        ensures kept { OnOk result (IsKept self.old.cells self.old.trail self.new.cells self.new.trail) }
+        ensures kept { OnOk result (IsKeptAt (is_first (state_of self.old)) self.old.cells self.old.trail self.new.cells self.new.trail) }
+        ensures trial { OnOk result (IsTrial D.ops problem.now.terms self.new.cells self.new.trail trial.new) }
     {
-        match step_cause(problem, step) {
-            Some(cause) => Ok(Finding::Refused(cause)),
-            None => {
-                self.cells.apply_kept(problem, step, &mut self.trail)?;
-                Ok(Finding::Passed)
-            }
+        if let Some(cause) = step_cause(problem, step) {
+            return Ok(Finding::Refused(cause));
         }
+        if self.is_first() {
+            trial.apply(problem, &mut self.cells, step);
+            return Ok(Finding::Passed);
+        }
+        self.cells.apply_kept(problem, step, &mut self.trail)?;
+        Ok(Finding::Passed)
     }
 
     // Ends the tree that is read, and begins the one that waited first, if any did.
@@ -345,9 +356,9 @@ impl<D: Domain> Checker<D> {
         ensures trial { OnOk result (IsTrial D.ops problem.now.terms self.new.cells self.new.trail trial.new) }
     {
         match line {
-            Line::Forward { term } => self.read_step(problem, claim, Step::Forward { term }),
+            Line::Forward { term } => self.read_step(problem, trial, claim, Step::Forward { term }),
             Line::Backward { parent, place } => {
-                self.read_step(problem, claim, Step::Backward { parent, place })
+                self.read_step(problem, trial, claim, Step::Backward { parent, place })
             }
             Line::Try { .. } => Ok(Finding::Passed),
             Line::Split { term, bit } => self.read_split(problem, trial, claim, tries, term, bit),

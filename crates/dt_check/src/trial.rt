@@ -10,7 +10,7 @@ ghost use Rattle.dt_check.specs.Noting.{AreChoices, AreNoted};
 use crate::evaluation::Evaluation;
 use crate::marks::Marks;
 use dt_bits::NoMemory;
-use dt_box::{Cells, Trail, Watches};
+use dt_box::{Cells, Step, Trail, Watches};
 use dt_domain::Domain;
 use dt_terms::Problem;
 use std::alloc::Global;
@@ -151,11 +151,12 @@ pub struct Trial {
 }
 
 impl Trial {
-    ghost use Rattle.std.specs.Prelude.{◌≡◌, ◌<◌, ◌≤◌, All, length, take, slice_index, slice_set, true, false, IsTrue, IfOk};
+    ghost use Rattle.std.specs.Prelude.{◌≡◌, ◌<◌, ◌≤◌, [], All, length, take, slice_index, slice_set, true, false, IsTrue, IfOk};
     ghost use Rattle.std.specs.List.{list_all};
     ghost use Rattle.dt_terms.specs.Terms.{is_choice, term_at, choices_of};
     ghost use Rattle.dt_terms.specs.Values.{solves};
     ghost use Rattle.dt_box.specs.Cells.{AreCells};
+    ghost use Rattle.dt_box.specs.Steps.{IsStep, after_step};
     ghost use Rattle.dt_box.specs.Stillness.{HasNoEmpty};
     ghost use Rattle.dt_box.specs.Trails.{back};
     ghost use Rattle.dt_check.specs.Evaluating.{numbers_of};
@@ -213,6 +214,21 @@ impl Trial {
         mark_changed(problem, trail, seen, self.seen, &mut self.changed);
         self.seen = seen;
         cells.undo(trail, to);
+    }
+
+    /// The cells take a step as by `Cells::apply`, where the trail is empty and stays so, and the trial
+    /// follows them. It takes no memory.
+    pub(crate) fn apply<D: Domain>(&mut self, problem: &Problem, cells: &mut Cells<D>, step: Step)
+        requires cells { AreCells D.ops problem.now.terms cells.old }
+        requires step { IsStep problem.now.terms step }
+        requires trial { IsTrial D.ops problem.now.terms cells.old [] self.old }
+        ensures cells { cells.new ≡ after_step D.ops problem.now.terms step cells.old }
+        ensures are { AreCells D.ops problem.now.terms cells.new }
+        ensures trial { IsTrial D.ops problem.now.terms cells.new [] self.new }
+    {
+        let _ = &problem.terms;
+        cells.apply(problem, step);
+        mark_choice(problem, step.target(problem), &mut self.changed);
     }
 
     // Notes the choices whose cells changed since the last trial.
