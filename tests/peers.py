@@ -25,6 +25,7 @@ smt_write.py says how a list is written, smt_read.py how it is read again.
 from __future__ import annotations
 
 import argparse
+import contextlib
 import os
 import random
 import resource
@@ -53,9 +54,9 @@ SOLVERS = {"z3": ["z3", "-smt2"], "cvc5": ["cvc5", "--lang=smt2"], "boolector": 
 def measured(words: list[str], limit: int) -> tuple[float, str]:
     """The processor seconds of a command, and the first word that it prints; none where it was stopped."""
     with tempfile.TemporaryFile() as out:
-        limited = lambda: resource.setrlimit(resource.RLIMIT_CPU, (limit, limit + 1))
-        child = subprocess.Popen(words, stdin=subprocess.DEVNULL, stdout=out, stderr=subprocess.DEVNULL,
-                                 preexec_fn=limited)
+        child = subprocess.Popen(words, stdin=subprocess.DEVNULL, stdout=out, stderr=subprocess.DEVNULL)
+        with contextlib.suppress(ProcessLookupError):  # it may have ended already
+            resource.prlimit(child.pid, resource.RLIMIT_CPU, (limit, limit + 1))
         _, status, usage = os.wait4(child.pid, 0)
         child.returncode = os.waitstatus_to_exitcode(status)
         out.seek(0)
