@@ -12,7 +12,8 @@ use Rattle.dt_terms.specs.Values.{IsAssignment, solves}
 use Rattle.dt_forms.specs.Meaning.{values}
 use Rattle.dt_table.specs.Images.{image_told}
 use Rattle.dt_table.specs.Numbers.{numbers_of}
-use Rattle.dt_table.specs.Table.{choices}
+use Rattle.dt_table.specs.Table.{choices, table, built}
+use Rattle.dt_encode.specs.declared.building.Encoded.{Encoded}
 
 -- numbers that solve the problem tell an image that satisfies the list
 abbrev pub TellsImages : ModelData → Requests → ProblemData → Type 0
@@ -26,3 +27,8 @@ TakesImages d r p = (i : Image) → Fit i.memory.bytes i.memory.words → Satisf
 pub record HasChoices (d : ModelData) (r : Requests) (p : ProblemData) : Type 0 where
   pub choices : map (term_at p.terms) (choices_of p.terms) ≡ choices d r
   pub bits : sum_by (bits_at p.terms) (choices_of p.terms) ≡ choice_bits d r
+
+-- the problem of a list, and for each access what stands for its nodes
+pub record IsEncoded (d : ModelData) (r : Requests) (e : Encoded) : Type 0 where
+  pub problem : e.problem ≡ table d r
+  pub outs : map (λ row. row.items) e.outs.items ≡ (built d r).outs

@@ -1,7 +1,7 @@
-ghost use Rattle.std.specs.Prelude.{◌≡◌, map, IfOk};
+ghost use Rattle.std.specs.Prelude.{IfOk};
 ghost use Rattle.dt_model.specs.Accepted.{accepted_data};
 ghost use Rattle.dt_request.specs.Lists.{IsList};
-ghost use Rattle.dt_table.specs.Table.{table, built};
+ghost use Rattle.dt_encode.specs.Encoding.{IsEncoded};
 
 use crate::choices::choice_widths;
 use dt_bits::{NoMemory, Width};
@@ -14,7 +14,8 @@ use dt_terms::Problem;
 use dt_unroll::build_accesses;
 use std::alloc::Global;
 
-/// The problem of a list, and for each access what stands for its nodes.
+/// The problem of a list, and for each access what stands for its nodes, by which an image is told
+/// of numbers that solve the problem (`image_in`).
 #[derive(Drop)]
 pub struct Encoded {
     pub problem: Problem,
@@ -25,10 +26,7 @@ pub struct Encoded {
 /// ran out, and where the problem has no room.
 pub fn build(alloc: Global, model: &Accepted, requests: &Requests) -> Result<Encoded, NoMemory>
     requires { IsList (accepted_data model.now) requests.now }
-    ensures problem { IfOk result (λ encoded.
-        encoded.problem ≡ table (accepted_data model.now) requests.now) }
-    ensures outs { IfOk result (λ encoded. map (λ row. row.items) encoded.outs.items
-        ≡ (built (accepted_data model.now) requests.now).outs) }
+    ensures { IfOk result (IsEncoded (accepted_data model.now) requests.now) }
 {
     let widths = choice_widths(alloc, model, requests)?;
     let mut builder = Builder::new(alloc, widths.as_slice())?;

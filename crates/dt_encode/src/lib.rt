@@ -9,7 +9,8 @@
 //! that satisfies, and an image that satisfies gives numbers that solve it. Its choices are those of
 //! the list in order, and have as many bits as `choice_bits` says. `image_of` gives exactly the image
 //! that numbers tell: it satisfies the list, its memory is a table memory, and its words are those
-//! that its accesses read, one for each cell, and no others.
+//! that its accesses read, one for each cell, and no others. `encode_list` and `image_in` are the same
+//! two, by which the problem is built once for both.
 //!
 //! Not proved: that the calls succeed where there is memory.
 #![tactic(auto)]
@@ -25,6 +26,7 @@ mod telling;
 mod values;
 mod words;
 
-pub use encoding::encode;
+pub use building::Encoded;
+pub use encoding::{encode, encode_list};
 pub use fault::{EncodeFault, Quantity3};
-pub use telling::image_of;
+pub use telling::{image_in, image_of};

@@ -51,7 +51,7 @@ const PASSES: u32 = 64;
 const CHOICES: u32 = 1024;
 
 // How many parts are looked at in one proposal.
-const FUEL: u64 = 20_000_000;
+const FUEL: u64 = 4_000_000;
 
 // Where an access has its goals beside those of nodes and rules.
 const SPARE: usize = 256;

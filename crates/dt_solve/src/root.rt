@@ -1,5 +1,5 @@
 ghost use Rattle.std.specs.Prelude.{◌≡◌, [], IfOk};
-ghost use Rattle.dt_box.specs.Cells.{AreCells};
+ghost use Rattle.dt_box.specs.Cells.{AreCells, root_cells};
 ghost use Rattle.dt_box.specs.Stillness.{IsSettled};
 ghost use Rattle.dt_box.specs.Watching.{watches_of};
 ghost use Rattle.dt_propagate.specs.Settling.{IsLogged, IsEnd};
@@ -43,15 +43,17 @@ fn settle_root<D: Deciding>(
     }
 }
 
-// The settled root cells of a problem.
+// The root cells of a problem, settled.
 pub(crate) fn settled_root<D: Deciding>(
     alloc: Global,
     problem: &Problem,
+    mut cells: Cells<D>,
 ) -> Result<Root<D>, NoMemory>
+    requires { cells ≡ root_cells D.ops problem.now }
     ensures { IfOk result (λ root. IsRoot D.ops problem.now root.cells root.draft.lines root.end) }
 {
+    let _ = &problem.terms;
     let watches = Watches::new(alloc, problem)?;
-    let mut cells: Cells<D> = Cells::root(alloc, problem)?;
     let mut draft = Draft::new(alloc);
     let end = settle_root(alloc, problem, &watches, &mut cells, &mut draft)?;
     Ok(Root { cells, draft, end })

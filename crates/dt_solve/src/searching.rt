@@ -3,6 +3,7 @@ ghost use Rattle.dt_log.specs.Shapes.{is_tree};
 ghost use Rattle.dt_solve.specs.Outcomes.{IsAnswer, IsEnded, FindsAim, FollowsAim};
 ghost use Rattle.dt_solve.specs.Roots.{IsRoot};
 
+use crate::early::found_early;
 use crate::guiding::Rule;
 use crate::outcome::Outcome;
 use crate::proposer::Proposer;
@@ -11,6 +12,7 @@ use crate::tried::Tried;
 use crate::turning::{Search, Turned, begin, turn};
 use crate::writing::without_tries;
 use dt_bits::NoMemory;
+use dt_box::Cells;
 use dt_domain::Deciding;
 use dt_log::{Claim, Draft, Log};
 use dt_terms::Problem;
@@ -98,8 +100,9 @@ fn attempts<D: Deciding, P: Proposer<D>>(
     Ok(None)
 }
 
-/// Searches for an assignment that solves the problem, with at most this many splits. At settled
-/// cells the proposer's numbers are tried; where they fail, a bit of a choice is split, and both
+/// Searches for an assignment that solves the problem, with at most this many splits. First the
+/// proposer's numbers are tried at the root cells as they are; where they solve, nothing is settled.
+/// Else, at settled cells, the proposer's numbers are tried; where they fail, a bit of a choice is split, and both
 /// halves are searched, the one with the bit 0 first. The answer is an assignment that solves the
 /// problem; or a log that refutes it; or a record of exactly `limit` splits, at each of which a trial
 /// failed. The record doesn't come where `limit` is `2^C - 1` or more, `C` being the number of bits of
@@ -121,7 +124,11 @@ pub fn search<D: Deciding, P: Proposer<D>>(
     ensures follows { IfOk result (λ outcome. FollowsAim D.ops problem.now (P.aim proposer.old) outcome) }
     ensures aim { P.aim proposer.new ≡ P.aim proposer.old }
 {
-    let root: Root<D> = settled_root(alloc, problem)?;
+    let cells: Cells<D> = Cells::root(alloc, problem)?;
+    if let Some(numbers) = found_early(alloc, problem, &cells, proposer)? {
+        return Ok(Outcome::Found(numbers));
+    }
+    let root: Root<D> = settled_root(alloc, problem, cells)?;
     let mut reach = FIRST_REACH;
     while reach < limit && !is_refuted(&root) {
         match attempts(alloc, problem, &root, reach, proposer)? {

@@ -107,7 +107,7 @@ impl Tried {
 
     /// Asks for a proposal, and replaces each number that its choice's cell doesn't hold by the
     /// cell's pick.
-    fn ask<D: Domain, P: Proposer<D>>(
+    pub(crate) fn ask<D: Domain, P: Proposer<D>>(
         &mut self,
         problem: &Problem,
         cells: &Cells<D>,

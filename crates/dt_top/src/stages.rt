@@ -6,7 +6,7 @@ ghost use Rattle.dt_modeltext.specs.Read.{IsModelText};
 ghost use Rattle.dt_request.specs.Lists.{IsList};
 ghost use Rattle.dt_image.specs.Images.{IsImage};
 ghost use Rattle.dt_log.specs.Read.{reading as log_in};
-ghost use Rattle.dt_encode.specs.Encoding.{TakesImages, HasChoices};
+ghost use Rattle.dt_encode.specs.Encoding.{TakesImages, HasChoices, IsEncoded};
 ghost use Rattle.dt_table.specs.Table.{table};
 ghost use Rattle.dt_top.specs.Course.{Never};
 ghost use Rattle.dt_top.specs.Files.{limit_of};
@@ -18,7 +18,7 @@ ghost use Rattle.dt_top.specs.Table.{Replies};
 use crate::file::File;
 use crate::reply::Reply;
 use crate::status::Status;
-use dt_encode::{EncodeFault, encode};
+use dt_encode::{EncodeFault, Encoded, encode_list};
 use dt_image::{Image, read_image};
 use dt_log::{Log, read_log};
 use dt_model::Accepted;
@@ -97,6 +97,25 @@ pub fn model_image(alloc: Global, model: &Accepted, bytes: &[u8]) -> Result<Imag
     }
 }
 
+/// The problem of a list for a model, with what an image is told by, or the refusal of a list that is
+/// too large.
+pub fn encoded_list(alloc: Global, model: &Accepted, list: &Requests) -> Result<Encoded, Reply>
+    requires { IsList (accepted_data model.now) list.now }
+    ensures encoded { IfOk result (IsEncoded (accepted_data model.now) list.now) }
+    ensures takes { IfOk result (λ e. TakesImages (accepted_data model.now) list.now e.problem) }
+    ensures choices { IfOk result (λ e. HasChoices (accepted_data model.now) list.now e.problem) }
+    ensures within { OnOk result (HasProblem (accepted_data model.now) list.now) }
+    ensures refused { IfErr result (λ reply.
+        Replies (OnProblem (accepted_data model.now) list.now Never)
+        reply.status (bytes_of reply.text)) }
+{
+    match encode_list(alloc, model, list) {
+        Ok(encoded) => Ok(encoded),
+        Err(EncodeFault::TooLarge { what, number }) => Err(Reply::too_large(alloc, what, number)),
+        Err(EncodeFault::Memory) => Err(Reply::no_memory()),
+    }
+}
+
 /// The problem of a list for a model, or the refusal of a list that is too large.
 pub fn list_problem(alloc: Global, model: &Accepted, list: &Requests) -> Result<Problem, Reply>
     requires { IsList (accepted_data model.now) list.now }
@@ -108,11 +127,8 @@ pub fn list_problem(alloc: Global, model: &Accepted, list: &Requests) -> Result<
         Replies (OnProblem (accepted_data model.now) list.now Never)
         reply.status (bytes_of reply.text)) }
 {
-    match encode(alloc, model, list) {
-        Ok(problem) => Ok(problem),
-        Err(EncodeFault::TooLarge { what, number }) => Err(Reply::too_large(alloc, what, number)),
-        Err(EncodeFault::Memory) => Err(Reply::no_memory()),
-    }
+    let encoded = encoded_list(alloc, model, list)?;
+    Ok(encoded.problem)
 }
 
 /// The log that a file's bytes spell, or the refusal of the bytes.

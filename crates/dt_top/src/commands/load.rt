@@ -3,7 +3,7 @@
 ghost use Rattle.std.specs.Prelude.{◌≡◌, ◌∷◌, ◌++◌, [], true, map, IfOk, IfErr, OnOk};
 ghost use Rattle.std.specs.Option.{option_map};
 ghost use Rattle.std.specs.String.{string_bytes};
-ghost use Rattle.dt_encode.specs.Encoding.{TakesImages};
+ghost use Rattle.dt_encode.specs.Encoding.{TakesImages, IsEncoded};
 ghost use Rattle.dt_encode.specs.declared.fault.EncodeFault.TheVariants as faults;
 ghost use Rattle.dt_lex.specs.Numeral.{decimal};
 ghost use Rattle.dt_lex.specs.Printing.{row_text};
@@ -23,7 +23,7 @@ use crate::reply::Reply;
 use crate::status::Status;
 use crate::words::word_number;
 use dt_bits::NoMemory;
-use dt_encode::{EncodeFault, encode, image_of};
+use dt_encode::{EncodeFault, Encoded, encode_list, image_in};
 use dt_lex::{Piece, push_row};
 use dt_make::{can_be_made, make_requests};
 use dt_model::Accepted;
@@ -122,14 +122,16 @@ fn found(
     alloc: Global,
     model: &Accepted,
     list: &Requests,
+    encoded: &Encoded,
     numbers: &[u128],
 ) -> Result<LoadEnd, NoMemory>
     requires list { IsList (accepted_data model.now) list.now }
+    requires encoded { IsEncoded (accepted_data model.now) list.now encoded.now }
     requires assignment { IsAssignment (table (accepted_data model.now) list.now).terms numbers.now }
     requires solves { solves (table (accepted_data model.now) list.now) numbers.now ≡ true }
     ensures { IfOk result (IsLoadEnd (accepted_data model.now) list.now) }
 {
-    let image = image_of(alloc, model, list, numbers)?;
+    let image = image_in(alloc, model, list, encoded, numbers)?;
     Ok(LoadEnd::Image {
         words: image.memory.words.len() as u64,
     })
@@ -141,16 +143,18 @@ fn searched(
     model: &Accepted,
     list: &Requests,
     problem: &Problem,
+    encoded: &Encoded,
     seed: u64,
 ) -> Result<LoadEnd, NoMemory>
     requires list { IsList (accepted_data model.now) list.now }
     requires problem { problem.now ≡ table (accepted_data model.now) list.now }
+    requires encoded { IsEncoded (accepted_data model.now) list.now encoded.now }
     requires takes { TakesImages (accepted_data model.now) list.now problem.now }
     ensures { IfOk result (IsLoadEnd (accepted_data model.now) list.now) }
 {
     let _ = &problem.terms;
     match search_list::<Triple>(alloc, model, list, problem, MOST_SPLITS, seed)? {
-        Outcome::Found(numbers) => found(alloc, model, list, numbers.as_slice()),
+        Outcome::Found(numbers) => found(alloc, model, list, encoded, numbers.as_slice()),
         Outcome::Refuted(_log) => Ok(LoadEnd::Impossible),
         Outcome::Spent(_log) => Ok(LoadEnd::Budget),
     }
@@ -178,8 +182,9 @@ fn ended(alloc: Global, n: u64) -> Result<LoadEnd, EncodeFault>
 {
     let model = sv39_model(alloc)?;
     let list = made_list(alloc, &model, n)?;
-    let problem = encode(alloc, &model, &list)?;
-    Ok(searched(alloc, &model, &list, &problem, n)?)
+    let encoded = encode_list(alloc, &model, &list)?;
+    let problem = &encoded.problem;
+    Ok(searched(alloc, &model, &list, problem, &encoded, n)?)
 }
 
 // Appends a line of a word and a number.

@@ -4,7 +4,7 @@ ghost use Rattle.std.specs.Option.{option_map};
 ghost use Rattle.std.specs.String.{string_bytes};
 ghost use Rattle.dt_model.specs.Accepted.{accepted_data};
 ghost use Rattle.dt_request.specs.Lists.{IsList};
-ghost use Rattle.dt_encode.specs.Encoding.{TakesImages, HasChoices};
+ghost use Rattle.dt_encode.specs.Encoding.{TakesImages, HasChoices, IsEncoded};
 ghost use Rattle.dt_table.specs.Table.{table};
 ghost use Rattle.dt_terms.specs.Values.{IsAssignment, solves};
 ghost use Rattle.dt_top.specs.Answers.{IsStimulus};
@@ -16,12 +16,12 @@ ghost use Rattle.dt_top.specs.commands.Solve.{solve_of, solve_asked, solve_files
 use crate::models::{ModelWord, model_word};
 use crate::reading::model_and_list;
 use crate::reply::Reply;
-use crate::stages::list_problem;
+use crate::stages::encoded_list;
 use crate::status::Status;
 use crate::words::{is_file_name, word_number};
 use dt_bits::NoMemory;
 use dt_edge::Shelf;
-use dt_encode::image_of;
+use dt_encode::{Encoded, image_in};
 use dt_image::print_image;
 use dt_log::print_log;
 use dt_model::Accepted;
@@ -88,14 +88,16 @@ fn image_text(
     alloc: Global,
     model: &Accepted,
     list: &Requests,
+    encoded: &Encoded,
     numbers: &[u128],
 ) -> Result<Vec<u8>, NoMemory>
     requires list { IsList (accepted_data model.now) list.now }
+    requires encoded { IsEncoded (accepted_data model.now) list.now encoded.now }
     requires assignment { IsAssignment (table (accepted_data model.now) list.now).terms numbers.now }
     requires solves { solves (table (accepted_data model.now) list.now) numbers.now ≡ true }
     ensures { IfOk result (λ text. IsStimulus (accepted_data model.now) list.now text.items) }
 {
-    let image = image_of(alloc, model, list, numbers)?;
+    let image = image_in(alloc, model, list, encoded, numbers)?;
     print_image(alloc, model, &image)
 }
 
@@ -106,11 +108,13 @@ fn searched(
     model: &Accepted,
     list: &Requests,
     problem: &Problem,
+    encoded: &Encoded,
     splits: u64,
     seed: u64,
 ) -> Result<Reply, NoMemory>
     requires list { IsList (accepted_data model.now) list.now }
     requires problem { problem.now ≡ table (accepted_data model.now) list.now }
+    requires encoded { IsEncoded (accepted_data model.now) list.now encoded.now }
     requires takes { TakesImages (accepted_data model.now) list.now problem.now }
     requires choices { HasChoices (accepted_data model.now) list.now problem.now }
     ensures { IfOk result (λ reply. Replies (Answering (accepted_data model.now) list.now splits)
@@ -119,7 +123,7 @@ fn searched(
     let _ = &problem.terms;
     match search_list::<Triple>(alloc, model, list, problem, splits, seed)? {
         Outcome::Found(numbers) => {
-            let text = image_text(alloc, model, list, numbers.as_slice())?;
+            let text = image_text(alloc, model, list, encoded, numbers.as_slice())?;
             Ok(Reply::made(Status::Good, text))
         }
         Outcome::Refuted(log) => {
@@ -147,11 +151,12 @@ pub fn solve_reply(
     ensures { Replies (SolvingList splits (accepted_data model.now) list.now)
         result.status (bytes_of result.text) }
 {
-    let problem = match list_problem(alloc, model, list) {
-        Ok(problem) => problem,
+    let encoded = match encoded_list(alloc, model, list) {
+        Ok(encoded) => encoded,
         Err(reply) => return reply,
     };
-    match searched(alloc, model, list, &problem, splits, seed) {
+    let problem = &encoded.problem;
+    match searched(alloc, model, list, problem, &encoded, splits, seed) {
         Ok(reply) => reply,
         Err(_) => Reply::no_memory(),
     }

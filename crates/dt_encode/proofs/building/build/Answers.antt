@@ -10,8 +10,11 @@ build_accesses-requires c = record {
       (c.in_ok-builder.ensures ∙ ap of_choices (c.as_slice.ensures.value ∙ c.in_ok-widths.ensures.widths)) c.in_ok-_zero.ensures.placed c.in_ok-_one.ensures.placed;
 }
 
-pub returns-clause-problem : goal.returns-clause-problem
-returns-clause-problem c =
-    c.finish.ensures
-    ∙ c.in_ok-require_claims.ensures
-    ∙ finished (accepted_data c.args.model.now) c.args.requests.now c.build_accesses.new.builder (map (λ v. v.items) c.as_slice-2.result.now) c.in_ok-outs.ensures.problem (ap (map (λ v. v.items)) c.as_slice-2.ensures.value ∙ c.in_ok-outs.ensures.outs)
+pub returns : goal.returns
+returns c = record {
+  problem =
+      c.finish.ensures
+      ∙ c.in_ok-require_claims.ensures
+      ∙ finished (accepted_data c.args.model.now) c.args.requests.now c.build_accesses.new.builder (map (λ v. v.items) c.as_slice-2.result.now) c.in_ok-outs.ensures.problem (ap (map (λ v. v.items)) c.as_slice-2.ensures.value ∙ c.in_ok-outs.ensures.outs);
+  outs = c.in_ok-outs.ensures.outs;
+}

@@ -17,7 +17,7 @@ use Rattle.dt_table.proofs.Whole.{to_memory}
 use Rattle.dt_encode.specs.Telling.{valued}
 use Rattle.dt_encode.proofs.Listed.{Holds, told_holds}
 use Rattle.dt_encode.proofs.Whole.{image_built}
-use Rattle.dt_encode.proofs.telling.image_of.Goals as goal
+use Rattle.dt_encode.proofs.telling.image_in.Goals as goal
 
 pub all_reads-requires : goal.all_reads-requires
 all_reads-requires c =
@@ -39,10 +39,10 @@ invariant_of-memory c =
     let r = c.args.requests.now in
     let numbers = c.args.values.now in
     let same = image_built d r numbers c.as_slice-of_terms.result.now c.word_bytes.result (steps_of c.as_slice-nodes.result.now) (map (λ row. row.items) c.as_slice.result.now) c.from_vec.result c.in_ok-contexts.contexts c.in_ok-accesses.accesses
-    (values_are c.in_ok-encoded.encoded.problem (table d r) numbers c.in_ok-of_terms.of_terms.items c.as_slice-of_terms.result.now c.in_ok-encoded.ensures.problem c.in_ok-of_terms.ensures c.as_slice-of_terms.ensures.value)
+    (values_are c.args.encoded.now.problem (table d r) numbers c.in_ok-of_terms.of_terms.items c.as_slice-of_terms.result.now c.requires.encoded.problem c.in_ok-of_terms.ensures c.as_slice-of_terms.ensures.value)
     c.word_bytes.ensures.value
     (view_steps c.model.result.now d c.as_slice-nodes.result.now c.model.ensures.same c.as_slice-nodes.ensures)
-    (rows_are c.as_slice.result.now c.in_ok-encoded.encoded.outs.items (built d r).outs c.as_slice.ensures.value c.in_ok-encoded.ensures.outs)
+    (rows_are c.as_slice.result.now c.args.encoded.now.outs.items (built d r).outs c.as_slice.ensures.value c.requires.encoded.outs)
     (c.from_vec.ensures ∙ c.in_ok-words.ensures ∙ ap words_read c.in_ok-reads.ensures)
     (c.in_ok-contexts.ensures ∙ ap (λ (n : ℕ). contexts_told (valued c.as_slice-of_terms.result.now) d n 0) c.len.ensures)
     c.in_ok-accesses.ensures in
@@ -54,10 +54,10 @@ returns c =
     let r = c.args.requests.now in
     let numbers = c.args.values.now in
     let same = image_built d r numbers c.as_slice-of_terms.result.now c.word_bytes.result (steps_of c.as_slice-nodes.result.now) (map (λ row. row.items) c.as_slice.result.now) c.from_vec.result c.in_ok-contexts.contexts c.in_ok-accesses.accesses
-    (values_are c.in_ok-encoded.encoded.problem (table d r) numbers c.in_ok-of_terms.of_terms.items c.as_slice-of_terms.result.now c.in_ok-encoded.ensures.problem c.in_ok-of_terms.ensures c.as_slice-of_terms.ensures.value)
+    (values_are c.args.encoded.now.problem (table d r) numbers c.in_ok-of_terms.of_terms.items c.as_slice-of_terms.result.now c.requires.encoded.problem c.in_ok-of_terms.ensures c.as_slice-of_terms.ensures.value)
     c.word_bytes.ensures.value
     (view_steps c.model.result.now d c.as_slice-nodes.result.now c.model.ensures.same c.as_slice-nodes.ensures)
-    (rows_are c.as_slice.result.now c.in_ok-encoded.encoded.outs.items (built d r).outs c.as_slice.ensures.value c.in_ok-encoded.ensures.outs)
+    (rows_are c.as_slice.result.now c.args.encoded.now.outs.items (built d r).outs c.as_slice.ensures.value c.requires.encoded.outs)
     (c.from_vec.ensures ∙ c.in_ok-words.ensures ∙ ap words_read c.in_ok-reads.ensures)
     (c.in_ok-contexts.ensures ∙ ap (λ (n : ℕ). contexts_told (valued c.as_slice-of_terms.result.now) d n 0) c.len.ensures)
     c.in_ok-accesses.ensures in

@@ -3,7 +3,7 @@ use Rattle.dt_model.specs.Accepted.{accepted_data}
 use Rattle.dt_table.proofs.Whole.{to_image, from_image}
 use Rattle.dt_encode.specs.Encoding.{TellsImages, TakesImages, HasChoices}
 use Rattle.dt_encode.proofs.Chosen.{table_choices}
-use Rattle.dt_encode.proofs.encoding.encode.Goals as goal
+use Rattle.dt_encode.proofs.encoding.encode_list.Goals as goal
 
 pub returns-clause-tells : goal.returns-clause-tells
 returns-clause-tells c =
