@@ -105,7 +105,7 @@ def told(title: str, commands: dict[str, list[str]], runs: int, limit: int) -> b
     ours, best = medians["solve"], min(medians[name] for name in commands if name != "solve")
     for name, median in medians.items():
         more = ">" if answers[name] == "stopped" else ""
-        print(f"{title}\t{name}\t{answers[name]}\t{more}{median:.3f} s\t{more}{median / max(ours, 1e-6):.1f}")
+        print(f"{title}\t{name}\t{answers[name]}\t{more}{median:.4f} s\t{more}{median / max(ours, 1e-6):.1f}")
     times = best / max(ours, 1e-6)
     print(f"{title}\tthe best other one takes {times:.1f} times as long as solve", flush=True)
     yes = any(answer in ("image", "sat") for answer in answers.values())
