@@ -1,7 +1,7 @@
 use crate::change::{change_of, put};
 use crate::near::are_settled_after;
 use crate::propagation::{narrowed, target};
-use crate::root::{full_cells, require_ones};
+use crate::root::{full_cells, require_ones, unused};
 use crate::sweep::{first_empty, first_step, step_from, tells};
 use crate::trail::{put_kept, undo_to};
 use crate::{Changed, Step, Trail, Watches};
@@ -18,11 +18,14 @@ use std::marker::Model;
 #[derive(Debug, Drop)]
 pub struct Cells<D: Domain> {
     cells: Vec<D>,
+    // What is handed in where an operator has no operand.
+    unused: D,
 }
 
 impl<D: Domain> Model for Cells<D> {
-    ghost use Rattle.std.specs.Prelude.{List};
+    ghost use Rattle.std.specs.Prelude.{◌≡◌, List};
     ghost use Rattle.std.specs.Coded.{coded_list};
+    ghost use Rattle.dt_bits.specs.Bits.{width};
     ghost use Rattle.dt_box.specs.Cells.{AreDomains};
 
     ghost Value = { List D };
@@ -31,7 +34,7 @@ impl<D: Domain> Model for Cells<D> {
 
     ghost view = { λ c. c.cells.items };
 
-    ghost invariant = { λ c. AreDomains D.ops c.cells.items };
+    ghost invariant = { λ c. AreDomains D.ops c.cells.items × (c.unused ≡ D.ops.full (width 1)) };
 }
 
 impl<D: Domain> Cells<D> {
@@ -54,7 +57,10 @@ impl<D: Domain> Cells<D> {
     {
         let mut cells = full_cells(alloc, problem.terms.as_slice())?;
         require_ones(&mut cells, problem.required.as_slice());
-        Ok(Cells { cells })
+        Ok(Cells {
+            cells,
+            unused: unused(),
+        })
     }
 
     /// Equal cells, in memory of their own.
@@ -63,6 +69,7 @@ impl<D: Domain> Cells<D> {
     {
         Ok(Cells {
             cells: Vec::from_slice(alloc, &self.cells)?,
+            unused: self.unused,
         })
     }
 
@@ -93,7 +100,7 @@ impl<D: Domain> Cells<D> {
         ensures are { AreCells D.ops problem.now.terms self.new }
     {
         let terms = problem.terms.as_slice();
-        let narrowed = narrowed(terms, &self.cells, step);
+        let narrowed = narrowed(terms, &self.cells, &self.unused, step);
         put(&mut self.cells[target(terms, step) as usize], narrowed)
     }
 
@@ -115,7 +122,7 @@ impl<D: Domain> Cells<D> {
         ensures kept { IsKept self.old trail.old self.new trail.new }
     {
         let terms = problem.terms.as_slice();
-        let narrowed = narrowed(terms, &self.cells, step);
+        let narrowed = narrowed(terms, &self.cells, &self.unused, step);
         let at = target(terms, step);
         let cell = &mut self.cells[at as usize];
         put_kept(cell, at, narrowed, &mut trail.changes)
@@ -193,7 +200,7 @@ impl<D: Domain> Cells<D> {
         requires step { IsStep problem.now.terms step }
         ensures { result ≡ tells D.ops problem.now.terms step self.now }
     {
-        tells(problem.terms.as_slice(), &self.cells, step)
+        tells(problem.terms.as_slice(), &self.cells, &self.unused, step)
     }
 
     /// A step of the term at a position that would empty a cell or make a further bit known; None
@@ -203,7 +210,7 @@ impl<D: Domain> Cells<D> {
         requires term { term < length problem.now.terms }
         ensures { MatchOption result (IsStillAt D.ops problem.now.terms term self.now) (λ step. TellsNew D.ops problem.now.terms step self.now) }
     {
-        step_from(problem.terms.as_slice(), &self.cells, term)
+        step_from(problem.terms.as_slice(), &self.cells, &self.unused, term)
     }
 
     /// A step that would empty a cell or make a further bit known; None exactly where the cells are
@@ -213,7 +220,7 @@ impl<D: Domain> Cells<D> {
         requires held { HasNoEmpty D.ops self.now }
         ensures { MatchOption result (IsSettled D.ops problem.now.terms self.now) (λ step. TellsNew D.ops problem.now.terms step self.now) }
     {
-        first_step(problem.terms.as_slice(), &self.cells)
+        first_step(problem.terms.as_slice(), &self.cells, &self.unused)
     }
 
     /// Whether the cells are settled, where they were when the trail had this many pairs. It tries
@@ -236,6 +243,7 @@ impl<D: Domain> Cells<D> {
             problem.terms.as_slice(),
             watches,
             &self.cells,
+            &self.unused,
             &trail.changes[length as usize..],
         )
     }

@@ -7,7 +7,7 @@ ghost use Rattle.dt_box.specs.Cells.{AreCells, cell_at};
 ghost use Rattle.dt_box.specs.Steps.{IsStep, operand_cell, target, propagated};
 
 use crate::Step;
-use dt_bits::{Op, Width, arity};
+use dt_bits::{Op, arity};
 use dt_domain::Domain;
 use dt_terms::Term;
 
@@ -36,13 +36,6 @@ pub(crate) fn target(terms: &[Term], step: Step) -> u32
     }
 }
 
-// What is handed in where an operator has no operand.
-fn unused<D: Domain>() -> D
-    ensures { result ≡ D.ops.full (width 1) }
-{
-    D::full(Width(1))
-}
-
 // The cell of the operand at a place, or what stands for it where the operator has none there.
 fn operand_cell<'a, D: Domain>(
     cells: &'a [D],
@@ -64,20 +57,20 @@ fn operand_cell<'a, D: Domain>(
 
 // The node's cell, narrowed by what its operands' cells say of it; None where that is nothing new.
 #[inline(always)]
-fn narrowed_forward<D: Domain>(terms: &[Term], cells: &[D], term: u32) -> Option<D>
+fn narrowed_forward<D: Domain>(terms: &[Term], cells: &[D], unused: &D, term: u32) -> Option<D>
     requires terms { AreTerms terms.now }
     requires cells { AreCells D.ops terms.now cells.now }
+    requires unused { unused.now ≡ D.ops.full (width 1) }
     requires step { IsStep terms.now (Forward term) }
     ensures { IsNarrowed D.ops (cell_at D.ops cells.now term) (propagated D.ops terms.now (Forward term) cells.now) result }
 {
     match terms[term as usize] {
         Term::Node { op, a, b, c, .. } => {
-            let unused = unused();
             cells[term as usize].narrowed_forward(
                 op,
-                operand_cell(cells, &unused, op, 0, a),
-                operand_cell(cells, &unused, op, 1, b),
-                operand_cell(cells, &unused, op, 2, c),
+                operand_cell(cells, unused, op, 0, a),
+                operand_cell(cells, unused, op, 1, b),
+                operand_cell(cells, unused, op, 2, c),
             )
         }
         Term::Choice { .. } => unreachable!(),
@@ -87,22 +80,28 @@ fn narrowed_forward<D: Domain>(terms: &[Term], cells: &[D], term: u32) -> Option
 // The cell of the operand at a place, narrowed by what the node's cell and those of its operands say
 // of it; None where that is nothing new.
 #[inline(always)]
-fn narrowed_backward<D: Domain>(terms: &[Term], cells: &[D], parent: u32, place: u32) -> Option<D>
+fn narrowed_backward<D: Domain>(
+    terms: &[Term],
+    cells: &[D],
+    unused: &D,
+    parent: u32,
+    place: u32,
+) -> Option<D>
     requires terms { AreTerms terms.now }
     requires cells { AreCells D.ops terms.now cells.now }
+    requires unused { unused.now ≡ D.ops.full (width 1) }
     requires step { IsStep terms.now (Backward parent place) }
     ensures { IsNarrowed D.ops (cell_at D.ops cells.now (target terms.now (Backward parent place))) (propagated D.ops terms.now (Backward parent place) cells.now) result }
 {
     match terms[parent as usize] {
         Term::Node { op, a, b, c, .. } => {
-            let unused = unused();
             cells[operand_of(a, b, c, place) as usize].narrowed_backward(
                 op,
                 place,
                 &cells[parent as usize],
-                operand_cell(cells, &unused, op, 0, a),
-                operand_cell(cells, &unused, op, 1, b),
-                operand_cell(cells, &unused, op, 2, c),
+                operand_cell(cells, unused, op, 0, a),
+                operand_cell(cells, unused, op, 1, b),
+                operand_cell(cells, unused, op, 2, c),
             )
         }
         Term::Choice { .. } => unreachable!(),
@@ -112,9 +111,10 @@ fn narrowed_backward<D: Domain>(terms: &[Term], cells: &[D], parent: u32, place:
 // The cell of the step's target, narrowed by what its neighbours' cells say of it; None where that is
 // nothing new.
 #[inline(always)]
-pub(crate) fn narrowed<D: Domain>(terms: &[Term], cells: &[D], step: Step) -> Option<D>
+pub(crate) fn narrowed<D: Domain>(terms: &[Term], cells: &[D], unused: &D, step: Step) -> Option<D>
     requires terms { AreTerms terms.now }
     requires cells { AreCells D.ops terms.now cells.now }
+    requires unused { unused.now ≡ D.ops.full (width 1) }
     requires step { IsStep terms.now step }
     ensures value { IsNarrowed D.ops (cell_at D.ops cells.now (target terms.now step)) (propagated D.ops terms.now step cells.now) result }
     ensures domain { IfSome result D.ops.IsDomain }
@@ -122,7 +122,7 @@ pub(crate) fn narrowed<D: Domain>(terms: &[Term], cells: &[D], step: Step) -> Op
     ensures target { target terms.now step < length cells.now }
 {
     match step {
-        Step::Forward { term } => narrowed_forward(terms, cells, term),
-        Step::Backward { parent, place } => narrowed_backward(terms, cells, parent, place),
+        Step::Forward { term } => narrowed_forward(terms, cells, unused, term),
+        Step::Backward { parent, place } => narrowed_backward(terms, cells, unused, parent, place),
     }
 }

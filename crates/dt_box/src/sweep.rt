@@ -1,5 +1,6 @@
 ghost use Rattle.std.specs.Prelude.{◌≡◌, ℕ, ◌^◌, ◌<◌, false, length, IsTrue, IfSome, IfNone, MatchOption};
 ghost use Rattle.std.specs.List.{position_from};
+ghost use Rattle.dt_bits.specs.Bits.{width};
 ghost use Rattle.dt_terms.specs.Terms.{AreTerms};
 ghost use Rattle.dt_box.specs.declared.step.Step.TheVariants.{Backward};
 ghost use Rattle.dt_box.specs.Cells.{AreDomains, AreCells, cell_at};
@@ -30,26 +31,34 @@ pub(crate) fn first_empty<D: Domain>(cells: &[D]) -> Option<u32>
 }
 
 // Whether the step empties a cell or makes a further bit known.
-pub(crate) fn tells<D: Domain>(terms: &[Term], cells: &[D], step: Step) -> bool
+pub(crate) fn tells<D: Domain>(terms: &[Term], cells: &[D], unused: &D, step: Step) -> bool
     requires terms { AreTerms terms.now }
     requires cells { AreCells D.ops terms.now cells.now }
+    requires unused { unused.now ≡ D.ops.full (width 1) }
     requires step { IsStep terms.now step }
     ensures { result ≡ tells D.ops terms.now step cells.now }
 {
-    let narrowed = narrowed(terms, cells, step);
+    let narrowed = narrowed(terms, cells, unused, step);
     has_news(&cells[target(terms, step) as usize], narrowed)
 }
 
 // The first step backward from a node, with this many operands, that tells something new.
-fn backward_from<D: Domain>(terms: &[Term], cells: &[D], parent: u32, places: u32) -> Option<Step>
+fn backward_from<D: Domain>(
+    terms: &[Term],
+    cells: &[D],
+    unused: &D,
+    parent: u32,
+    places: u32,
+) -> Option<Step>
     requires terms { AreTerms terms.now }
     requires cells { AreCells D.ops terms.now cells.now }
+    requires unused { unused.now ≡ D.ops.full (width 1) }
     requires places { (k : ℕ) → k < places → IsStep terms.now (Backward parent k) }
     ensures { MatchOption result ((k : ℕ) → k < places → tells D.ops terms.now (Backward parent k) cells.now ≡ false) (λ step. TellsNew D.ops terms.now step cells.now) }
 {
     for place in 0..places {
         let step = Step::Backward { parent, place };
-        if tells(terms, cells, step) {
+        if tells(terms, cells, unused, step) {
             return Some(step);
         }
     }
@@ -57,9 +66,15 @@ fn backward_from<D: Domain>(terms: &[Term], cells: &[D], parent: u32, places: u3
 }
 
 // The first step from the term at a position that tells something new.
-pub(crate) fn step_from<D: Domain>(terms: &[Term], cells: &[D], term: u32) -> Option<Step>
+pub(crate) fn step_from<D: Domain>(
+    terms: &[Term],
+    cells: &[D],
+    unused: &D,
+    term: u32,
+) -> Option<Step>
     requires terms { AreTerms terms.now }
     requires cells { AreCells D.ops terms.now cells.now }
+    requires unused { unused.now ≡ D.ops.full (width 1) }
     requires term { term < length terms.now }
     ensures { MatchOption result (IsStillAt D.ops terms.now term cells.now) (λ step. TellsNew D.ops terms.now step cells.now) }
 {
@@ -70,23 +85,24 @@ pub(crate) fn step_from<D: Domain>(terms: &[Term], cells: &[D], term: u32) -> Op
                 return None;
             }
             let forward = Step::Forward { term };
-            if tells(terms, cells, forward) {
+            if tells(terms, cells, unused, forward) {
                 return Some(forward);
             }
-            backward_from(terms, cells, term, arity(op))
+            backward_from(terms, cells, unused, term, arity(op))
         }
     }
 }
 
 // The first step that tells something new.
-pub(crate) fn first_step<D: Domain>(terms: &[Term], cells: &[D]) -> Option<Step>
+pub(crate) fn first_step<D: Domain>(terms: &[Term], cells: &[D], unused: &D) -> Option<Step>
     requires terms { AreTerms terms.now }
     requires cells { AreCells D.ops terms.now cells.now }
+    requires unused { unused.now ≡ D.ops.full (width 1) }
     requires count { length terms.now < 2 ^ 32 }
     ensures { MatchOption result (IsStill D.ops terms.now cells.now) (λ step. TellsNew D.ops terms.now step cells.now) }
 {
     for term in 0..terms.len() as u32 {
-        let step = step_from(terms, cells, term);
+        let step = step_from(terms, cells, unused, term);
         if step.is_some() {
             return step;
         }

@@ -62,16 +62,16 @@ fn keep<D: Domain>(
     changes: &mut Vec<(u32, D)>,
     changed: Changed,
     term: u32,
-    earlier: D,
+    earlier: &D,
 ) -> Result<(), NoMemory>
-    ensures ok { OnOk result (changes.new.items ≡ with_change changed term earlier changes.old.items) }
+    ensures ok { OnOk result (changes.new.items ≡ with_change changed term earlier.now changes.old.items) }
     ensures err { OnErr result (changes.new.items ≡ changes.old.items) }
 {
     match changed {
         Changed::No => {}
-        Changed::Narrowed => changes.push((term, earlier))?,
-        Changed::BitKnown => changes.push((term, earlier))?,
-        Changed::Empty => changes.push((term, earlier))?,
+        Changed::Narrowed => changes.push((term, *earlier))?,
+        Changed::BitKnown => changes.push((term, *earlier))?,
+        Changed::Empty => changes.push((term, *earlier))?,
     }
     Ok(())
 }
@@ -95,13 +95,12 @@ pub(crate) fn put_kept<D: Domain>(
     match narrowed {
         None => {
             let changed = unchanged(cell);
-            keep(changes, changed, term, *cell)?;
+            keep(changes, changed, term, cell)?;
             Ok(changed)
         }
         Some(new) => {
             let changed = change_of(cell, &new);
-            let earlier = *cell;
-            keep(changes, changed, term, earlier)?;
+            keep(changes, changed, term, cell)?;
             *cell = new;
             Ok(changed)
         }

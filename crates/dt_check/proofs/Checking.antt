@@ -109,32 +109,6 @@ module _ (D : Type 0) (ops : DomainOps D) where
     step_found (steps.Backward u i) s new longer h c e a k =
         (c, two (λ x y. reading (x ∷ y) [] s.splits s.opened) e (waiting_kept D ops s.cells s.trail new longer (reverse s.pending) k h.stacked), state_kept p.terms claim s new longer h a k)
 
-    -- a step before the first split, of which nothing is kept
-    pub first_found : (step : Step) (s : State D) (new : List D) → IsState ops p.terms claim s → step_cause p.terms step ≡ None
-        → new ≡ after_step ops p.terms step s.cells → AreCells ops p.terms new → is_first s ≡ true
-        → IsFound ops p claim (step_line step) [] s Passed (state new s.trail s.pending s.splits s.opened s.settled)
-    first_found step s new h c e a f = by_step step c e
-      where
-        qs : s.pending ≡ []
-        qs = (first_parts s f).1
-
-        waits : waiting ops new s.trail (reverse s.pending) ≡ waiting ops s.cells s.trail (reverse s.pending)
-        waits = ap (λ q. waiting ops new s.trail (reverse q)) qs ∙ sym (ap (λ q. waiting ops s.cells s.trail (reverse q)) qs)
-
-        still : IsState ops p.terms claim (state new s.trail s.pending s.splits s.opened s.settled)
-        still = record {
-          cells_are = a;
-          within = subst (λ n. All (λ (change : ℕ × D). change.0 < n) s.trail) (h.cells_are.count ∙ sym a.count) h.within;
-          stacked = h.stacked;
-          splits_at = subst (λ q. AtSplits (IsSplitAt ops p.terms claim) new s.trail (reverse q)) (sym qs) tt;
-          settled = subst (WasSettled ops p.terms new s.trail) (sym (first_parts s f).2) tt;
-        }
-
-        by_step : (step : Step) → step_cause p.terms step ≡ None → new ≡ after_step ops p.terms step s.cells
-            → IsFound ops p claim (step_line step) [] s Passed (state new s.trail s.pending s.splits s.opened s.settled)
-        by_step (steps.Forward t) c e = (c, two (λ x y. reading (x ∷ y) [] s.splits s.opened) e waits, still)
-        by_step (steps.Backward u i) c e = (c, two (λ x y. reading (x ∷ y) [] s.splits s.opened) e waits, still)
-
     trial_settled : (claim : Claim) (cells : List D) (tries : List (ℕ × ℕ)) → SplitTrial ops p claim cells tries → UnderBudget claim (IsSettled ops p.terms cells)
     trial_settled Impossible cells tries h = tt
     trial_settled (Budget n) cells tries h = h.settled

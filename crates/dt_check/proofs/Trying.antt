@@ -15,7 +15,7 @@ use Rattle.dt_box.specs.Trails.{terms_of, back, IsKept}
 use Rattle.dt_box.proofs.Trails.{same_between, kept_back, back_twice, back_whole}
 use Rattle.dt_check.specs.Trials.{pick_at, picks}
 use Rattle.dt_check.specs.Marks.{HasNone}
-use Rattle.dt_check.specs.Noting.{AreChoices, AreNoted}
+use Rattle.dt_check.specs.Noting.{AreChoices, StandsBetween, AreNoted}
 use Rattle.dt_check.specs.Evaluating.{numbers_of}
 use Rattle.dt_check.specs.Trying.{ArePicked, IsTrial, IsNew}
 use Rattle.dt_check.specs.declared.trial.Trial.{Trial}
@@ -36,13 +36,13 @@ noted_none terms changed m marks = record {
   count = refl;
   kept = λ t e. e;
   noted = λ k l j e. absurd (omega arith);
-  choices = λ h t e. h t e;
+  only = λ t e. inl e;
 }
 
 -- one more
-pub noted_more : (terms : List Term) (changed : List ℕ) (m n t : ℕ) (old new : List Bool) → t < length new → t ≡ get_or changed n 0 → AreNoted terms changed m n old new
+pub noted_more : (terms : List Term) (changed : List ℕ) (m n t : ℕ) (old new : List Bool) → t < length new → m ≤ n → t ≡ get_or changed n 0 → AreNoted terms changed m n old new
     → AreNoted terms changed m (n + 1) old (cond (is_choice (term_at terms t)) (set new t true) new)
-noted_more terms changed m n t old new l e h = by_term (is_choice (term_at terms t)) refl
+noted_more terms changed m n t old new l o e h = by_term (is_choice (term_at terms t)) refl
   where
     here : get_or (set new t true) t false ≡ true
     here = get_or-set_same new t true false l
@@ -54,10 +54,15 @@ noted_more terms changed m n t old new l e h = by_term (is_choice (term_at terms
     marked_at k i j f (inl g) = ap (λ v. get_or (set new t true) v false) (ap (λ p. get_or changed p 0) g ∙ sym e) ∙ here
     marked_at k i j f (inr d) = still (get_or changed k 0) (h.noted k i (omega (arith, d)) f)
 
-    choice_at : is_choice (term_at terms t) ≡ true → (u : ℕ) → ((v : ℕ) → get_or old v false ≡ true → is_choice (term_at terms v) ≡ true) → get_or (set new t true) u false ≡ true
-        → (u ≡ t) ⊎ (u ≡ t → ⊥) → is_choice (term_at terms u) ≡ true
-    choice_at c u g f (inl x) = ap (λ v. is_choice (term_at terms v)) x ∙ c
-    choice_at c u g f (inr d) = h.choices g u (sym (get_or-set_other new t u true false d) ∙ f)
+    later : (u : ℕ) → (get_or old u false ≡ true) ⊎ ((is_choice (term_at terms u) ≡ true) × StandsBetween changed m n u)
+        → (get_or old u false ≡ true) ⊎ ((is_choice (term_at terms u) ≡ true) × StandsBetween changed m (n + 1) u)
+    later u (inl x) = inl x
+    later u (inr (x, s)) = inr (x, record { place = s.place; after = s.after; before = omega (arith, s.before); stands = s.stands })
+
+    only_at : is_choice (term_at terms t) ≡ true → (u : ℕ) → get_or (set new t true) u false ≡ true → (u ≡ t) ⊎ (u ≡ t → ⊥)
+        → (get_or old u false ≡ true) ⊎ ((is_choice (term_at terms u) ≡ true) × StandsBetween changed m (n + 1) u)
+    only_at c u f (inl x) = inr (ap (λ v. is_choice (term_at terms v)) x ∙ c, record { place = n; after = o; before = omega arith; stands = sym e ∙ sym x })
+    only_at c u f (inr d) = later u (h.only u (sym (get_or-set_other new t u true false d) ∙ f))
 
     passed_at : is_choice (term_at terms t) ≡ false → (k : ℕ) → m ≤ k → k < n + 1 → is_choice (term_at terms (get_or changed k 0)) ≡ true → (k ≡ n) ⊎ (k ≡ n → ⊥) → get_or new (get_or changed k 0) false ≡ true
     passed_at c k i j f (inl g) = absurd (false≢true (sym c ∙ ap (λ v. is_choice (term_at terms v)) (e ∙ ap (λ p. get_or changed p 0) (sym g)) ∙ f))
@@ -68,13 +73,13 @@ noted_more terms changed m n t old new l e h = by_term (is_choice (term_at terms
       count = length-set new t true ∙ h.count;
       kept = λ u f. still u (h.kept u f);
       noted = λ k i j f. marked_at k i j f (cases_eq k n);
-      choices = λ g u f. choice_at c u g f (cases_eq u t);
+      only = λ u f. only_at c u f (cases_eq u t);
     }
     by_term false c = record {
       count = h.count;
       kept = h.kept;
       noted = λ k i j f. passed_at c k i j f (cases_eq k n);
-      choices = h.choices;
+      only = λ u f. later u (h.only u f);
     }
 
 -- a change names a term
@@ -123,7 +128,11 @@ module _ (D : Type 0) (ops : DomainOps D) (terms : List Term) where
       → ((t : ℕ) → ((k : ℕ) → m ≤ k → k < n → get_or changed k 0 ≢ t) → cell_at ops cells t ≡ cell_at ops others t) → ArePicked ops terms others new values
   picked_moved cells others old new values changed m n h a same = record {
     count = a.count ∙ h.count;
-    choices = a.choices h.choices;
+    choices = λ t e.
+        ⊎_elim
+        (λ (f : get_or old t false ≡ true). h.choices t f)
+        (λ (f : (is_choice (term_at terms t) ≡ true) × StandsBetween changed m n t). f.0)
+        (a.only t e);
     each = λ t l c. by_mark t c (h.each t l c) (cases_Bool (get_or new t false));
   }
     where
@@ -222,7 +231,7 @@ module _ (D : Type 0) (ops : DomainOps D) (terms : List Term) where
   picked_noted cells trail trial t d marks none l e h =
       subst (λ ms. ArePicked ops terms (back (set cells t d) trail trial.seen) ms trial.evaluation.values.items) (sym e)
       (picked_moved (back cells trail trial.seen) (back (set cells t d) trail trial.seen) old _ trial.evaluation.values.items (t ∷ []) 0 1 h.picked
-      (noted_more terms (t ∷ []) 0 0 t old old (omega (arith, l, h.picked.count)) refl (noted_none terms (t ∷ []) 0 old))
+      (noted_more terms (t ∷ []) 0 0 t old old (omega (arith, l, h.picked.count)) (omega arith) refl (noted_none terms (t ∷ []) 0 old))
       (λ u f. ap (λ ds. cell_at ops ds u) (whole cells) ∙ sym (get_or-set_other cells t u d (ops.full (width 1)) (λ g. f 0 (omega arith) (omega arith) (sym g))) ∙ sym (ap (λ ds. cell_at ops ds u) (whole (set cells t d)))))
     where
       old : List Bool

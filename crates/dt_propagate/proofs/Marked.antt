@@ -1,7 +1,7 @@
 -- Which steps are marked after a step was tried.
 use Rattle.std.proofs.Common.{◌≡◌, ◌≢◌, ℕ, zero, suc, ◌+◌, ◌-◌, ◌*◌, ◌<◌, ◌≤◌, Bool, true, false, not, ◌||◌, ◌&&◌, eqb, ltb, List, [], length, get_or, set, refl, sym, ap, ◌∙◌, subst, inl, inr, ◌⊎◌, ⊎_elim, arith}
 use Rattle.std.specs.List.{list_any, range_with_len}
-use Rattle.std.proofs.lemmas.Bool.{cases_Bool, cases_eq, cases_lt, lt-ltb, and_from, eq-eqb, eqb-true, or_left, or_right, or_cases, true≢false, false≢true}
+use Rattle.std.proofs.lemmas.Bool.{cases_Bool, cases_eq, cases_lt, lt-ltb, and_from, eq-eqb, eqb-true, ne_eqb, or_left, or_right, or_cases, true≢false, false≢true}
 use Rattle.std.proofs.lemmas.List.{set-get_or}
 use Rattle.dt_bits.specs.Bits.{width}
 use Rattle.dt_bits.specs.declared.op.Op.{Op}
@@ -130,10 +130,7 @@ module _ (D : Type 0) (ops : DomainOps D) (terms : List Term) where
     where
       by_eq : (s : Step) → is_marked old (position (length terms) s) ≡ true → (position (length terms) s ≡ at) ⊎ (position (length terms) s ≡ at → ⊥) → (is_marked new (position (length terms) s) ≡ true) ⊎ StandsAt terms at s
       by_eq s m (inl e) = inr e
-      by_eq s m (inr n) = inl (u (position (length terms) s) ∙ ap (λ b. not b && is_marked old (position (length terms) s)) (unequal (position (length terms) s) at n) ∙ m)
-        where
-          unequal : (i j : ℕ) → (i ≡ j → ⊥) → eqb i j ≡ false
-          unequal i j n = ⊎_elim (λ (e : eqb i j ≡ true). absurd (n (eqb-true i j e))) (λ (e : eqb i j ≡ false). e) (cases_Bool (eqb i j))
+      by_eq s m (inr n) = inl (u (position (length terms) s) ∙ ap (λ b. not b && is_marked old (position (length terms) s)) (ne_eqb (position (length terms) s) at n) ∙ m)
 
   -- the steps at a position below n are the one to that node
   pub forward_taken : (at : ℕ) (cells : List D) (words : List ℕ) → at < length terms → (tells ops terms (Forward at) cells ≡ false) ⊎ (AreMarkedNear terms words at) → AreMarkedBut ops terms cells words (StandsAt terms at) → AreMarked ops terms cells words

@@ -2,7 +2,7 @@
 use Rattle.std.proofs.Common.{◌≡◌, ◌≢◌, ℕ, zero, suc, ◌+◌, ◌-◌, ◌*◌, ◌/◌, ◌%◌, ◌^◌, ◌<◌, ◌≤◌, Bool, true, false, not, ◌&&◌, ◌||◌, cond, eqb, List, [], ◌∷◌, Option, Some, None, length, replicate, get_or, set, refl, sym, ap, ◌∙◌, subst, inl, inr, ◌⊎◌, ⊎_elim, arith, get_or-set_same, get_or-set_other}
 use Rattle.std.specs.Int.{bit_not, bit_at}
 use Rattle.std.specs.Int.RustNames.{bit_or}
-use Rattle.std.proofs.lemmas.Bool.{cases_eq, cases_lt, eq-eqb, eqb-true, or_right, and_parts, and_from, true≢false, false_from_ne_true}
+use Rattle.std.proofs.lemmas.Bool.{cases_eq, cases_lt, eq-eqb, eqb-true, ne_eqb, or_right, and_parts, and_from, true≢false, false_from_ne_true}
 use Rattle.std.proofs.lemmas.List.{get_or_past, length-replicate, get_or-replicate}
 use Rattle.std.proofs.lemmas.Nat.Bits.{bit_at_set_same, bit_at_set_other, bit_at_clear_same, bit_at_clear_other, bit_at-trailing_zeros}
 use Rattle.std.specs.Int.{trailing_zeros}
@@ -41,13 +41,6 @@ module _ (words : List ℕ) (at word : ℕ) (l : at / 64 < length words) where
   same_word : (i : ℕ) → i / 64 ≡ at / 64 → is_marked (set words (at / 64) word) i ≡ bit word (i % 64)
   same_word i e = ap (λ w. bit w (i % 64)) (ap (λ k. get_or (set words (at / 64) word) k 0) e ∙ get_or-set_same words (at / 64) word 0 l)
 
-  not_at : (i : ℕ) → (i ≡ at → ⊥) → eqb i at ≡ false
-  not_at i n = ⊎_elim (λ (e : eqb i at ≡ true). absurd (n (eqb-true i at e))) (λ (e : eqb i at ≡ false). e) (cases_Bool (eqb i at))
-    where
-      cases_Bool : (b : Bool) → (b ≡ true) ⊎ (b ≡ false)
-      cases_Bool true = inl refl
-      cases_Bool false = inr refl
-
   pub mark_is : word ≡ bit_or (get_or words (at / 64) 0) (1 * 2 ^ (at % 64) % 2 ^ 64) → (i : ℕ) → is_marked (set words (at / 64) word) i ≡ (eqb i at || is_marked words i)
   mark_is e i =
       ⊎_elim
@@ -60,8 +53,8 @@ module _ (words : List ℕ) (at word : ℕ) (l : at / 64 < length words) where
       let n : i % 64 ≢ at % 64 = λ h. f (omega arith) in
       same_word i g ∙ ap (λ w. bit w (i % 64)) e
       ∙ from_at _ (get_or words (at / 64) 0) (i % 64) (i % 64) (bit_at_set_other w64 (get_or words (at / 64) 0) (at % 64) (omega arith) (i % 64) n)
-      ∙ ap (λ k. bit (get_or words k 0) (i % 64)) (sym g) ∙ sym (ap (λ b. b || is_marked words i) (not_at i f)))
-      (λ (g : i / 64 ≡ at / 64 → ⊥). other_word i g ∙ sym (ap (λ b. b || is_marked words i) (not_at i f)))
+      ∙ ap (λ k. bit (get_or words k 0) (i % 64)) (sym g) ∙ sym (ap (λ b. b || is_marked words i) (ne_eqb i at f)))
+      (λ (g : i / 64 ≡ at / 64 → ⊥). other_word i g ∙ sym (ap (λ b. b || is_marked words i) (ne_eqb i at f)))
       (cases_eq (i / 64) (at / 64)))
       (cases_eq i at)
 
@@ -77,8 +70,8 @@ module _ (words : List ℕ) (at word : ℕ) (l : at / 64 < length words) where
       let n : i % 64 ≢ at % 64 = λ h. f (omega arith) in
       same_word i g ∙ ap (λ w. bit w (i % 64)) e
       ∙ from_at _ (get_or words (at / 64) 0) (i % 64) (i % 64) (bit_at_clear_other w64 (get_or words (at / 64) 0) (at % 64) (omega arith) (i % 64) (omega arith) n)
-      ∙ ap (λ k. bit (get_or words k 0) (i % 64)) (sym g) ∙ sym (ap (λ b. not b && is_marked words i) (not_at i f)))
-      (λ (g : i / 64 ≡ at / 64 → ⊥). other_word i g ∙ sym (ap (λ b. not b && is_marked words i) (not_at i f)))
+      ∙ ap (λ k. bit (get_or words k 0) (i % 64)) (sym g) ∙ sym (ap (λ b. not b && is_marked words i) (ne_eqb i at f)))
+      (λ (g : i / 64 ≡ at / 64 → ⊥). other_word i g ∙ sym (ap (λ b. not b && is_marked words i) (ne_eqb i at f)))
       (cases_eq (i / 64) (at / 64)))
       (cases_eq i at)
 
@@ -157,12 +150,9 @@ covered_mark words tops new more at c n m h g = record {
   each = λ i e.
       ⊎_elim
       (λ (f : i ≡ at). g (i / 64) ∙ ap (λ b. b || is_marked tops (i / 64)) (eq-eqb (i / 64) (at / 64) (ap (λ k. k / 64) f)))
-      (λ (f : i ≡ at → ⊥). g (i / 64) ∙ or_right (eqb (i / 64) (at / 64)) (is_marked tops (i / 64)) (c.each i (sym (ap (λ b. b || is_marked words i) (eqb_off i at f)) ∙ sym (h i) ∙ e)))
+      (λ (f : i ≡ at → ⊥). g (i / 64) ∙ or_right (eqb (i / 64) (at / 64)) (is_marked tops (i / 64)) (c.each i (sym (ap (λ b. b || is_marked words i) (ne_eqb i at f)) ∙ sym (h i) ∙ e)))
       (cases_eq i at);
 }
-  where
-    eqb_off : (i at : ℕ) → (i ≡ at → ⊥) → eqb i at ≡ false
-    eqb_off i at f = false_from_ne_true (eqb i at) (λ e. f (eqb-true i at e))
 
 -- a mark less
 pub covered_fewer : (words tops new : List ℕ) (at : ℕ) → AreCovered words tops → length new ≡ length words → ((i : ℕ) → is_marked new i ≡ (not (eqb i at) && is_marked words i)) → AreCovered new tops

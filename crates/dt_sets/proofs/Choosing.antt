@@ -176,7 +176,7 @@ forward_few op a b c e m =
 pub backward_none : (op : Op) (k : ℕ) (r a b c s : Sets) → s ≡ operand k a b c → (sets_is_empty r || some_used_empty op a b c) ≡ true → no_sets s.width ≡ sets_backward op k r a b c
 backward_none op k r a b c s d e = ap (λ (s : Sets). no_sets s.width) d ∙ sym (cond-true (sets_is_empty r || some_used_empty op a b c) _ _ e)
 
-either_unlisted : (r p q : Bool) → (r || p) ≡ true → (not r && (not p && q)) ≡ false
+pub either_unlisted : (r p q : Bool) → (r || p) ≡ true → (not r && (not p && q)) ≡ false
 either_unlisted r p q e = grind arith
 
 neither_unlisted : (r p q : Bool) → (r || p) ≡ false → (not r && (not p && q)) ≡ q

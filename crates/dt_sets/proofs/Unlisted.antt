@@ -41,6 +41,7 @@ use Rattle.dt_sets.specs.Triple.{IsTriple, pair_of, beside, triple_holds, no_tri
 use Rattle.dt_sets.specs.TripleOps.{triple_ops}
 use Rattle.dt_sets.specs.TripleLaws.Reduced.{Reduces, both, reduced_many, reduced_few, reduced_width, reduced_holds, reduced_is, reduced_empty, none_empty, canonical}
 use Rattle.dt_sets.specs.TripleLaws.Calls.{meet_is, meet_red, fitting_pair, at_pair, forward_red, backward_red, result_alike, operand_widths}
+use Rattle.dt_sets.proofs.Choosing.{either_unlisted}
 
 -- ---- an empty one
 
@@ -204,9 +205,6 @@ forward_unlisted op a b c f m =
 or_none : (r s t u : Bool) → (r ≡ true → t ≡ true) → (s ≡ true → u ≡ true) → (r || s) ≡ true → (c : Bool) → (t || (u || c)) ≡ true
 or_none r s t u f g h c = grind arith
 
-neither_few : (r s c : Bool) → (r || s) ≡ true → (not r && (not s && c)) ≡ false
-neither_few r s c h = grind arith
-
 pub backward_unlisted : (op : Op) (k : ℕ) (r a b c : Triple) → FittingAt triple_ops op k r a b c → (r.sets.many || some_used op a.sets.many b.sets.many c.sets.many) ≡ true
     → triple_backward op k r a b c ≡ (let q = pair_backward op k (pair_of r) (pair_of a) (pair_of b) (pair_of c) in reduced q (sets_full q.known.width))
 backward_unlisted op k r a b c f m =
@@ -226,7 +224,7 @@ backward_unlisted op k r a b c f m =
     ∙ sym (nothing_left q (sets_full q.known.width) (full_reduces q is.0) z))
     (λ (e : none ≡ false). ap (reduced q)
     (cond-false none (no_sets s.width) _ e
-    ∙ cond-false (not r.sets.many && are_few op a.sets b.sets c.sets) _ (sets_full s.width) (neither_few r.sets.many (some_used op a.sets.many b.sets.many c.sets.many) _ m)
+    ∙ cond-false (not r.sets.many && are_few op a.sets b.sets c.sets) _ (sets_full s.width) (either_unlisted r.sets.many (some_used op a.sets.many b.sets.many c.sets.many) _ m)
     ∙ ap sets_full j))
     (cases_Bool none)
 

@@ -22,7 +22,7 @@ loop-place-preserved g c =
     let named = named_below c.args.trail.now (length terms) c.loop-place.place (g.D.Domain.ops.full (width 1)) c.requires.within l in
     let within : c.term.result < length c.loop-place.marks.marks.items = omega (arith, c.term.ensures, named, c.loop-place.invariant.count, c.requires.count) in
     subst (λ (marks : List Bool). AreNoted terms changed c.args.from (c.loop-place.place + 1) c.args.marks.now.marks.items marks) (sym c.mark_choice.ensures)
-    (noted_more terms changed c.args.from c.loop-place.place c.term.result c.args.marks.now.marks.items c.loop-place.marks.marks.items within c.term.ensures c.loop-place.invariant)
+    (noted_more terms changed c.args.from c.loop-place.place c.term.result c.args.marks.now.marks.items c.loop-place.marks.marks.items within (omega arith) c.term.ensures c.loop-place.invariant)
 
 pub returns : goal.returns
 returns g c =

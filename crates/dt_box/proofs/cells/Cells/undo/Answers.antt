@@ -15,5 +15,5 @@ invariant_of-self g c =
     subst (λ (xs : List (ℕ × g.row.D.Denot)). All (λ (change : ℕ × g.row.D.Denot). change.0 < length cells.items) xs) (sym c.trail.view_is)
     (subst (λ (ds : List g.row.D.Denot). All (λ (change : ℕ × g.row.D.Denot). change.0 < length ds) c.args.trail.now) (sym c.self.view_is) c.requires.terms) in
     let n = written_whole c.undo_to.new.cells (drop (length c.undo_to.new.cells) cells.items) cells.len (c.undo_to.auto.cells ∙ ap length c.deref_mut.ensures.value ∙ sym cells.ok.0) in
-    subst (AreDomains ops) (sym (n ∙ c.undo_to.ensures.cells ∙ ap (λ (ds : List g.row.D.Denot). back ds trail c.args.length) c.deref_mut.ensures.value))
-    (back_domains ops cells.items trail c.args.length c.self.invariant c.trail.invariant terms)
+    let e = n ∙ c.undo_to.ensures.cells ∙ ap (λ (ds : List g.row.D.Denot). back ds trail c.args.length) c.deref_mut.ensures.value in
+    (subst (AreDomains ops) (sym e) (back_domains ops cells.items trail c.args.length c.self.invariant.0 c.trail.invariant terms), c.self.invariant.1)
