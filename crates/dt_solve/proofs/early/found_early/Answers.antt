@@ -1,5 +1,6 @@
-use Rattle.std.proofs.Common.{sym, ◌∙◌, subst}
+use Rattle.std.proofs.Common.{sym, ap, ◌∙◌, subst}
 use Rattle.dt_terms.specs.Problem.{IsProblem}
+use Rattle.dt_terms.specs.Values.{solves}
 use Rattle.dt_solve.proofs.EarlyTries.{root_are, early}
 use Rattle.dt_solve.proofs.early.found_early.Goals as goal
 
@@ -14,4 +15,4 @@ returns-then-eval-clause-found g c =
     let p = c.args.problem.now in
     let problem : IsProblem p = subst IsProblem c.problem.view_is c.problem.invariant.0 in
     early g.row.D.Denot g.D.Domain.ops g.met.D.Domain.laws p problem c.args.cells.now c.requires (g.P.Proposer.aim c.args.proposer.now) c.ask.new.self.numbers.items
-    c.ask.ensures.assignment (sym c.eval.ensures.solves ∙ c.if-eval.true) c.ask.ensures.told
+    c.ask.ensures.assignment (ap (solves p) (sym c.deref.ensures.value) ∙ sym c.eval.ensures.solves ∙ c.if-eval.true) c.ask.ensures.told
