@@ -173,7 +173,7 @@ entry_last g f st p k names at vars e h =
 
 -- ---- with the read
 
-first_at : (g : List ActData) (at : ℕ) (o : Option ActData) → slice_get g (at + 0) ≡ o → slice_get g at ≡ o
+pub first_at : (g : List ActData) (at : ℕ) (o : Option ActData) → slice_get g (at + 0) ≡ o → slice_get g at ≡ o
 first_at g at o h = let e : at + 0 ≡ at = omega arith in subst (λ j. slice_get g j ≡ o) e h
 
 pub above_tells : (g : Graph) → Forward g → (st : Stage) (p : Placed) → Tested g.env p.level st → (names : UpperNames) (i : ℕ) → StandFrom g.steps p.at (upper_nodes names i p) → (vars : Vars) (w c : ℕ) → Has g.env vars p.level.cell w c → tells g p.at vars ≡ level_told g p (judged st.permits st.stores 9 (suc i)) vars c (word_of g.memory c)

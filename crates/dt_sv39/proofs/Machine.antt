@@ -36,7 +36,7 @@ forward s m a = sv39_sound
 
 -- the stage's nodes stand in it
 abbrev behind : List NodeData
-behind = shipped.results ++ (shipped.page_faults ++ shipped.access_faults)
+behind = shipped.results ++ (shipped.page_faults shipped.at_page_fault ++ shipped.access_faults shipped.at_access_fault)
 
 pub stand : (s : Sv39Setting) (m : Memory) (a : Access) → StandFrom (graph s m a).steps 4 (stage_nodes shipped.stage)
 stand s m a = stand_front (steps sv39_data) 4 (stage_nodes shipped.stage) behind (stand_after (steps sv39_data) 0 shipped.head (stage_nodes shipped.stage ++ behind) (stand_whole shipped.nodes))

@@ -30,6 +30,10 @@ use Rattle.dt_sv39.proofs.Machine.{env, graph, forward, stand, stage_of, h_va, h
 pub cell_sum : (x y : ℕ) → x * 2 ^ 12 + (y * 2 ^ 3 + 0) ≡ x * 4096 + y * 8
 cell_sum x y = omega arith
 
+-- the low bits alone are set
+pub low_alone : (x : ℕ) → x < 2 ^ 64 → field 63 56 x ≡ 0 → field 55 0 x ≡ x
+low_alone x w h = omega arith
+
 pub from_zero : (x n : ℕ) → x / 2 ^ 0 % n ≡ x % n
 from_zero x n = ap (λ y. y % n) (whole x)
   where
@@ -141,11 +145,8 @@ module _ (owed : GoesByLevels shipped.stage) (s : Sv39Setting) (m : Memory) (a :
 
   -- ---- Bare
 
-  low : (x : ℕ) → x < 2 ^ 64 → field 63 56 x ≡ 0 → field 55 0 x ≡ x
-  low x w h = omega arith
-
   top : a.va < 2 ^ 64 → (b : Bool) → b ≡ eqb (field 63 56 a.va) 0 → (if b then ends (Done 2 (field 55 0 a.va) 12) else ends (Fault (node_named sv39_data (fault_name access_fault a.kind)) (code_of access_fault a.kind))) ≡ expected sv39_data true a.kind (if not b then ending (stopped access_fault) else ending (reached a.va 12))
-  top wide true h = ap (λ n. ends (Done 2 n 12)) (low a.va wide (eqb-true (field 63 56 a.va) 0 (sym h)))
+  top wide true h = ap (λ n. ends (Done 2 n 12)) (low_alone a.va wide (eqb-true (field 63 56 a.va) 0 (sym h)))
   top wide false h = refl
 
   bare : a.va < 2 ^ 64 → tells (graph s m a) 1 unbound ≡ expected sv39_data true a.kind (if not (eqb (field 63 56 a.va) 0) then ending (stopped access_fault) else ending (reached a.va 12))

@@ -90,16 +90,16 @@ head =
 abbrev pub is_store : Tree
 is_store = is kind 2 2
 
--- the mode may use the page: U and, in S-mode, SUM
-abbrev pub serves : Tree → Tree
-serves e = choose user (bit 4 e) (either (no (bit 4 e)) (both sum (no (is kind 2 0))))
+-- the mode may use the page: U and, in S-mode, this SUM
+abbrev pub serves : Tree → Tree → Tree
+serves sum e = choose user (bit 4 e) (either (no (bit 4 e)) (both sum (no (is kind 2 0))))
 
--- the page is executable, writable or readable as the kind asks, or executable with MXR
-abbrev pub allows : Tree → Tree
-allows e = choose (is kind 2 0) (bit 3 e) (choose is_store (bit 2 e) (either (bit 1 e) (both mxr (bit 3 e))))
+-- the page is executable, writable or readable as the kind asks, or executable with this MXR
+abbrev pub allows : Tree → Tree → Tree
+allows mxr e = choose (is kind 2 0) (bit 3 e) (choose is_store (bit 2 e) (either (bit 1 e) (both mxr (bit 3 e))))
 
 abbrev pub permits : Tree → Tree
-permits e = both (serves e) (allows e)
+permits e = both (serves sum e) (allows mxr e)
 
 -- the entry of this index in the table of this page number
 abbrev pub entry_at : Tree → Tree → Tree
@@ -161,32 +161,43 @@ by_kind n f d l s at fetch load store =
     ∷ acts s (fault store)
     ∷ []
 
-abbrev pub page_faults : List NodeData
-page_faults = by_kind (codes "page_fault") (codes "pf12") (codes "page_fault_data") (codes "pf13") (codes "pf15") at_page_fault 12 13 15
+abbrev pub page_faults : ℕ → List NodeData
+page_faults at = by_kind (codes "page_fault") (codes "pf12") (codes "page_fault_data") (codes "pf13") (codes "pf15") at 12 13 15
 
-abbrev pub access_faults : List NodeData
-access_faults = by_kind (codes "access_fault") (codes "af1") (codes "access_fault_data") (codes "af5") (codes "af7") at_access_fault 1 5 7
+abbrev pub access_faults : ℕ → List NodeData
+access_faults at = by_kind (codes "access_fault") (codes "af1") (codes "access_fault_data") (codes "af5") (codes "af7") at 1 5 7
 
 -- ---- the model
 
 abbrev pub nodes : List NodeData
-nodes = head ++ (stage_nodes stage ++ (results ++ (page_faults ++ access_faults)))
+nodes = head ++ (stage_nodes stage ++ (results ++ (page_faults at_page_fault ++ access_faults at_access_fault)))
 
 -- MODE is 8, or satp is 0
 abbrev pub context_rule : Tree
 context_rule = either (is (part 63 60 satp) 4 8) is_bare
 
+-- the kind is one of the three
 abbrev pub access_rule : Tree
 access_rule = no (is kind 2 3)
 
-abbrev pub sv39_data : ModelData
-sv39_data = record {
+-- with these registers, variables, rules of contexts and nodes: what each model of Sv39's accesses has besides
+abbrev pub model_of : List Named → List Named → List Tree → List NodeData → ModelData
+model_of regs vars context nodes = record {
   word = 64;
   address = 56;
-  regs = named (codes "satp") 64 ∷ named (codes "sum") 1 ∷ named (codes "mxr") 1 ∷ [];
+  regs = regs;
   inputs = named (codes "va") 64 ∷ named (codes "kind") 2 ∷ named (codes "user") 1 ∷ [];
-  vars = named (codes "pte2") 64 ∷ named (codes "pte1") 64 ∷ named (codes "pte0") 64 ∷ [];
-  legal_context = context_rule ∷ [];
+  vars = vars;
+  legal_context = context;
   legal_access = access_rule ∷ [];
   nodes = nodes;
 }
+
+abbrev pub regs : List Named
+regs = named (codes "satp") 64 ∷ named (codes "sum") 1 ∷ named (codes "mxr") 1 ∷ []
+
+abbrev pub vars : List Named
+vars = named (codes "pte2") 64 ∷ named (codes "pte1") 64 ∷ named (codes "pte0") 64 ∷ []
+
+abbrev pub sv39_data : ModelData
+sv39_data = model_of regs vars (context_rule ∷ []) nodes

@@ -124,9 +124,10 @@ pub fn by_kind(
     Ok(vec![in alloc; first, fetch, second, load, store]?)
 }
 
-/// Page faults, by the kind of the access.
-pub fn page_faults(alloc: Global) -> Result<Vec<Node>, NoMemory>
-    ensures { IfOk result (λ v. map node_of v.items ≡ shipped_page_faults) }
+/// Page faults, by the kind of the access; the first node stands at `at`.
+pub fn page_faults(alloc: Global, at: u32) -> Result<Vec<Node>, NoMemory>
+    requires { at < 1000 }
+    ensures { IfOk result (λ v. map node_of v.items ≡ shipped_page_faults at) }
 {
     let names = KindNames {
         first: b"page_fault",
@@ -140,12 +141,13 @@ pub fn page_faults(alloc: Global) -> Result<Vec<Node>, NoMemory>
         load: 13,
         store: 15,
     };
-    by_kind(alloc, names, PAGE_FAULT, codes)
+    by_kind(alloc, names, at, codes)
 }
 
-/// Access faults, by the kind of the access.
-pub fn access_faults(alloc: Global) -> Result<Vec<Node>, NoMemory>
-    ensures { IfOk result (λ v. map node_of v.items ≡ shipped_access_faults) }
+/// Access faults, by the kind of the access; the first node stands at `at`.
+pub fn access_faults(alloc: Global, at: u32) -> Result<Vec<Node>, NoMemory>
+    requires { at < 1000 }
+    ensures { IfOk result (λ v. map node_of v.items ≡ shipped_access_faults at) }
 {
     let names = KindNames {
         first: b"access_fault",
@@ -159,5 +161,5 @@ pub fn access_faults(alloc: Global) -> Result<Vec<Node>, NoMemory>
         load: 5,
         store: 7,
     };
-    by_kind(alloc, names, ACCESS_FAULT, codes)
+    by_kind(alloc, names, at, codes)
 }

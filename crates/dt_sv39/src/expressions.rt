@@ -62,12 +62,12 @@ pub fn is_sign_extended(alloc: Global) -> Result<Expr, NoMemory>
     either(alloc, zeros, ones)
 }
 
-// The mode may use the page of entry `e`: U and, in S-mode, SUM.
-fn serves(alloc: Global, e: u32) -> Result<Expr, NoMemory>
-    ensures { IfOk result (λ t. tree_of t ≡ served (var e)) }
+/// The mode may use the page of entry `e`: U and, in S-mode, this SUM.
+pub fn serves(alloc: Global, sum: Expr, e: u32) -> Result<Expr, NoMemory>
+    ensures { IfOk result (λ t. tree_of t ≡ served (tree_of sum) (var e)) }
 {
     let no_u = no(alloc, bit(alloc, 4, Expr::Var(e))?)?;
-    let with_sum = both(alloc, Expr::Reg(SUM), no(alloc, kind_is(alloc, FETCH)?)?)?;
+    let with_sum = both(alloc, sum, no(alloc, kind_is(alloc, FETCH)?)?)?;
     let supervisor = either(alloc, no_u, with_sum)?;
     choose(
         alloc,
@@ -77,11 +77,12 @@ fn serves(alloc: Global, e: u32) -> Result<Expr, NoMemory>
     )
 }
 
-// The page of entry `e` is executable, writable or readable as the kind asks, or executable with MXR.
-fn allows(alloc: Global, e: u32) -> Result<Expr, NoMemory>
-    ensures { IfOk result (λ t. tree_of t ≡ allowed (var e)) }
+/// The page of entry `e` is executable, writable or readable as the kind asks, or executable with this
+/// MXR.
+pub fn allows(alloc: Global, mxr: Expr, e: u32) -> Result<Expr, NoMemory>
+    ensures { IfOk result (λ t. tree_of t ≡ allowed (tree_of mxr) (var e)) }
 {
-    let executable = both(alloc, Expr::Reg(MXR), bit(alloc, 3, Expr::Var(e))?)?;
+    let executable = both(alloc, mxr, bit(alloc, 3, Expr::Var(e))?)?;
     let loads = either(alloc, bit(alloc, 1, Expr::Var(e))?, executable)?;
     let stores = bit(alloc, 2, Expr::Var(e))?;
     let others = choose(alloc, kind_is(alloc, STORE)?, stores, loads)?;
@@ -93,7 +94,8 @@ fn allows(alloc: Global, e: u32) -> Result<Expr, NoMemory>
 pub fn permits(alloc: Global, e: u32) -> Result<Expr, NoMemory>
     ensures { IfOk result (λ t. tree_of t ≡ permitted (var e)) }
 {
-    both(alloc, serves(alloc, e)?, allows(alloc, e)?)
+    let served_mode = serves(alloc, Expr::Reg(SUM), e)?;
+    both(alloc, served_mode, allows(alloc, Expr::Reg(MXR), e)?)
 }
 
 /// The address of the entry of this index, in the table of this page number.

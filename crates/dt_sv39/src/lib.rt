@@ -8,8 +8,8 @@
 //! entries in order, each at the node of its level (`specs/Law`). Its rules hold of exactly the
 //! settings and accesses that are legal. Want of memory alone may come in the model's place.
 //!
-//! Parts of it that the model of two stages has too are public: they give exactly the names, nodes and
-//! expressions of `specs/Shipped`.
+//! Parts of it that the model of two stages has too are public: they give exactly the names, nodes,
+//! expressions and data of `specs/Shipped`.
 #![tactic(auto)]
 
 mod ends;
@@ -18,6 +18,6 @@ mod positions;
 mod shipped;
 mod tables;
 
-pub use ends::{KindCodes, KindNames, acts, by_kind, decides};
-pub use expressions::{entry_at, is_sign_extended, kind_is, va};
-pub use shipped::{named, sv39_model};
+pub use ends::{KindCodes, KindNames, access_faults, acts, by_kind, decides, page_faults};
+pub use expressions::{allows, entry_at, is_sign_extended, kind_is, serves, va};
+pub use shipped::{model_of, named, sv39_model};

@@ -19,7 +19,7 @@ use Rattle.dt_stage.proofs.Goes.{goes_bind}
 use Rattle.dt_stage.proofs.OneLevel.{h_var}
 use Rattle.dt_stage.proofs.Parts.{fetch_goes}
 use Rattle.dt_stage.proofs.Values.{h_part, h_joined, h_value, h_as}
-use Rattle.dt_sv39.specs.Shipped.{entry_at}
+use Rattle.dt_sv39.specs.Shipped.{va, entry_at}
 use Rattle.dt_sv39.proofs.Walks.{cell_sum}
 use Rattle.dt_sv39x4.specs.Expected.{both_bare}
 use Rattle.dt_sv39x4.specs.Shipped as shipped
@@ -62,7 +62,7 @@ pub fetch_2 : (c : Sv39x4Setting) (m : Memory) (a : Access) → GoesByLevels (gu
     → tells (graph c m a) 3 w ≡ goes read_node (k_vs c m a) (fetched vs (vs_stage c a) 2 a.va next (vs_fetch c m 2 (field 43 0 c.vsatp * 4096 + field 38 30 a.va * 8)))
 fetch_2 c m a owed aligned w next r =
     let x = field 43 0 c.vsatp * 4096 + field 38 30 a.va * 8 in
-    goes_bind (graph c m a) (forward c m a) 3 0 (wide (entry_at (part 43 0 shipped.vsatp) (part 38 30 shipped.va))) 4 w 64 x refl (h_wide c a w _ x (h_as (h_joined (h_part 43 0 (h_vsatp c a w)) (h_joined (h_part 38 30 (h_va c a w)) (h_value 3 0))) (cell_sum (field 43 0 c.vsatp) (field 38 30 a.va)))).is
+    goes_bind (graph c m a) (forward c m a) 3 0 (wide (entry_at (part 43 0 shipped.vsatp) (part 38 30 va))) 4 w 64 x refl (h_wide c a w _ x (h_as (h_joined (h_part 43 0 (h_vsatp c a w)) (h_joined (h_part 38 30 (h_va c a w)) (h_value 3 0))) (cell_sum (field 43 0 c.vsatp) (field 38 30 a.va)))).is
     ∙ guest_tells (graph c m a) (forward c m a) c Implicit guest_a (of_entry 2) x read_node (holds 0 x) (k_entry c m a 2 next) owed
     (record {
       stand = a_stands;
@@ -97,7 +97,7 @@ pub fetch_1 : (c : Sv39x4Setting) (m : Memory) (a : Access) → GoesByLevels (gu
     → tells (graph c m a) 32 w ≡ goes read_node (k_vs c m a) (fetched vs (vs_stage c a) 1 a.va next (vs_fetch c m 1 (field 53 10 e * 4096 + field 29 21 a.va * 8)))
 fetch_1 c m a owed aligned w e next j r =
     let x = field 53 10 e * 4096 + field 29 21 a.va * 8 in
-    goes_bind (graph c m a) (forward c m a) 32 5 (wide (entry_at (part 53 10 (var 20)) (part 29 21 shipped.va))) 33 w 64 x refl (h_wide c a w _ x (h_as (h_joined (h_part 53 10 (h_var (env c a) w 20 64 e refl j)) (h_joined (h_part 29 21 (h_va c a w)) (h_value 3 0))) (cell_sum (field 53 10 e) (field 29 21 a.va)))).is
+    goes_bind (graph c m a) (forward c m a) 32 5 (wide (entry_at (part 53 10 (var 20)) (part 29 21 va))) 33 w 64 x refl (h_wide c a w _ x (h_as (h_joined (h_part 53 10 (h_var (env c a) w 20 64 e refl j)) (h_joined (h_part 29 21 (h_va c a w)) (h_value 3 0))) (cell_sum (field 53 10 e) (field 29 21 a.va)))).is
     ∙ guest_tells (graph c m a) (forward c m a) c Implicit guest_b (of_entry 1) x read_node (holds 5 x) (k_entry c m a 1 next) owed
     (record {
       stand = b_stands;
@@ -132,7 +132,7 @@ pub fetch_0 : (c : Sv39x4Setting) (m : Memory) (a : Access) → GoesByLevels (gu
     → tells (graph c m a) 61 w ≡ goes read_node (k_vs c m a) (fetched vs (vs_stage c a) 0 a.va next (vs_fetch c m 0 (field 53 10 e * 4096 + field 20 12 a.va * 8)))
 fetch_0 c m a owed aligned w e next j r =
     let x = field 53 10 e * 4096 + field 20 12 a.va * 8 in
-    goes_bind (graph c m a) (forward c m a) 61 10 (wide (entry_at (part 53 10 (var 21)) (part 20 12 shipped.va))) 62 w 64 x refl (h_wide c a w _ x (h_as (h_joined (h_part 53 10 (h_var (env c a) w 21 64 e refl j)) (h_joined (h_part 20 12 (h_va c a w)) (h_value 3 0))) (cell_sum (field 53 10 e) (field 20 12 a.va)))).is
+    goes_bind (graph c m a) (forward c m a) 61 10 (wide (entry_at (part 53 10 (var 21)) (part 20 12 va))) 62 w 64 x refl (h_wide c a w _ x (h_as (h_joined (h_part 53 10 (h_var (env c a) w 21 64 e refl j)) (h_joined (h_part 20 12 (h_va c a w)) (h_value 3 0))) (cell_sum (field 53 10 e) (field 20 12 a.va)))).is
     ∙ guest_tells (graph c m a) (forward c m a) c Implicit guest_c (of_entry 0) x read_node (holds 10 x) (k_entry c m a 0 next) owed
     (record {
       stand = c_stands;

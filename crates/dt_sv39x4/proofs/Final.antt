@@ -1,7 +1,7 @@
 -- The G-stage of the final address, and the choice of the smaller page.
-use Rattle.std.proofs.Common.{◌≡◌, ℕ, ◌<◌, ◌^◌, Bool, true, false, ◌&&◌, ◌||◌, eqb, refl, sym, ap, ◌∙◌}
+use Rattle.std.proofs.Common.{◌≡◌, ℕ, ◌<◌, ◌^◌, Bool, true, ◌&&◌, ◌||◌, eqb, refl, sym, ap, ◌∙◌}
 use Rattle.std.specs.Prelude.{if◌then◌else◌, slice_get, Some}
-use Rattle.std.proofs.lemmas.Bool.{eqb-true, eq-eqb}
+use Rattle.std.proofs.lemmas.Bool.{and_from, and_parts, eqb-true, eq-eqb}
 use Rattle.dt_bits.specs.Memory.{Memory}
 use Rattle.dt_model.specs.ModelData.{value, var, bind}
 use Rattle.dt_model.specs.Faults.{steps}
@@ -122,18 +122,6 @@ final_exit c m a v g n y w stands hv hg k j =
 abbrev final_keeps : ℕ → ℕ → Vars → Bool
 final_keeps x page w = eqb (w 15) x && eqb (w 23) page
 
-pub both_true : (p q : Bool) → p ≡ true → q ≡ true → (p && q) ≡ true
-both_true true q h k = k
-both_true false q h k = h
-
-pub first_true : (p q : Bool) → (p && q) ≡ true → p ≡ true
-first_true true q h = refl
-first_true false q h = h
-
-pub second_true : (p q : Bool) → (p && q) ≡ true → q ≡ true
-second_true true q h = h
-second_true false q h = absurd cc
-
 pub final_told : (c : Sv39x4Setting) (m : Memory) (a : Access) → GoesByLevels (guest_stage guest_final) → field 1 0 c.hgatp ≡ 0 → (v : Size) (x : ℕ) (w : Vars) → w 15 ≡ x → w 23 ≡ size v → eqb c.vsatp 0 ≡ eqb (size v) 0 → x < 2 ^ 64
     → tells (graph c m a) 99 w ≡ goes read_node (k_final c a (size v)) (g_walk c m of_final (Explicit a.kind) x)
 final_told c m a owed aligned v x w h j hv small =
@@ -150,7 +138,7 @@ final_told c m a owed aligned v x w h j hv small =
       node2 = refl;
       node1 = refl;
       node0 = refl;
-      has_x = λ u k. eqb-true (u 15) x (first_true (eqb (u 15) x) (eqb (u 23) (size v)) k);
+      has_x = λ u k. eqb-true (u 15) x (and_parts (eqb (u 15) x) (eqb (u 23) (size v)) k).0;
       small = small;
       keep2 = λ u e k. k;
       keep1 = λ u e k. k;
@@ -164,7 +152,7 @@ final_told c m a owed aligned v x w h j hv small =
       at16 = λ u y k o z. final_exit c m a v s16 125 y u refl hv z o (page_of_first u k);
       at12 = λ u y k o z. final_exit c m a v s12 126 y u refl hv z o (page_of_first u k);
     })
-    w (both_true (eqb (w 15) x) (eqb (w 23) (size v)) (eq-eqb (w 15) x h) (eq-eqb (w 23) (size v) j))
+    w (and_from (eqb (w 15) x) (eqb (w 23) (size v)) (eq-eqb (w 15) x h) (eq-eqb (w 23) (size v) j))
   where
     page_of_first : (u : Vars) → final_keeps x (size v) u ≡ true → u 23 ≡ size v
-    page_of_first u k = eqb-true (u 23) (size v) (second_true (eqb (u 15) x) (eqb (u 23) (size v)) k)
+    page_of_first u k = eqb-true (u 23) (size v) (and_parts (eqb (u 15) x) (eqb (u 23) (size v)) k).1

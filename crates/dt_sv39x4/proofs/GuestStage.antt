@@ -17,18 +17,15 @@ use Rattle.dt_stage.specs.Trees.{part, is}
 use Rattle.dt_stage.specs.Values.{Has}
 use Rattle.dt_stage.proofs.Goes.{goes_branch, goes_bind}
 use Rattle.dt_stage.proofs.GoesByLevels.{stand_front, stand_after}
-use Rattle.dt_stage.proofs.OneLevel.{h_var, bound_here}
+use Rattle.dt_stage.proofs.OneLevel.{first_at, h_var, bound_here}
 use Rattle.dt_stage.proofs.Values.{h_part, h_joined, h_value, h_as, s_is}
-use Rattle.dt_sv39.proofs.Walks.{cell_sum}
+use Rattle.dt_sv39.proofs.Walks.{cell_sum, low_alone}
 use Rattle.dt_sv39x4.specs.declared.guest.Guest.{Guest}
 use Rattle.dt_sv39x4.specs.Shipped.{hgatp, is_bare, level, guest_head, guest_stage, guest_results, guest_nodes, result_nodes, at_access_fault, at_guest_fault}
-use Rattle.dt_sv39x4.proofs.Leaves.{no_more, first_at, ResultsStand, leaf_at_2, leaf_at_1, leaf_at_0}
+use Rattle.dt_sv39x4.proofs.Leaves.{no_more, ResultsStand, leaf_at_2, leaf_at_1, leaf_at_0}
 
 top_sum : (h x : ℕ) → field 1 0 h ≡ 0 → field 43 2 h * 2 ^ 14 + (x * 2 ^ 3 + 0) ≡ field 43 0 h * 4096 + x * 8
 top_sum h x e = omega arith
-
-low : (x : ℕ) → x < 2 ^ 64 → field 63 56 x ≡ 0 → field 55 0 x ≡ x
-low x w h = omega arith
 
 -- The nodes of a G-stage of the address x stand, for this use of it, and what comes after its results:
 -- where it is Bare, and by the exponent of its page.
@@ -120,7 +117,7 @@ module _ (g : Graph) (f : Forward g) (c : Sv39x4Setting) (u : Use) (s : Guest) (
 
   -- Bare
   top : (b : Bool) → b ≡ eqb (field 63 56 x) 0 → (if b then k (reached (field 55 0 x) 0) else k (stopped access_fault)) ≡ goes nodes k (if not b then ending (stopped access_fault) else ending (reached x 0))
-  top true h = ap (λ y. k (reached y 0)) (low x o.small (eqb-true (field 63 56 x) 0 (sym h)))
+  top true h = ap (λ y. k (reached y 0)) (low_alone x o.small (eqb-true (field 63 56 x) 0 (sym h)))
   top false h = refl
 
   unmapped : (w : Vars) → keeps w ≡ true → eqb c.hgatp 0 ≡ true → tells g (s.at + 1) w ≡ goes nodes k whole

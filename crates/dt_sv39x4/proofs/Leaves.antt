@@ -1,8 +1,8 @@
 -- A stage's results: where a leaf of each level leads.
-use Rattle.std.proofs.Common.{◌≡◌, ℕ, ◌+◌, ◌*◌, ◌%◌, ◌^◌, ◌<◌, Bool, true, false, List, Option, Some, refl, sym, ap, ◌∙◌, subst, arith}
-use Rattle.std.specs.Prelude.{if◌then◌else◌, slice_get}
+use Rattle.std.proofs.Common.{◌≡◌, ℕ, ◌+◌, ◌*◌, ◌%◌, ◌^◌, ◌<◌, Bool, true, false, Some, refl, ap, ◌∙◌, arith}
+use Rattle.std.specs.Prelude.{if◌then◌else◌}
 use Rattle.std.proofs.lemmas.Bool.{true≢false}
-use Rattle.dt_model.specs.ModelData.{Tree, ActData, var}
+use Rattle.dt_model.specs.ModelData.{Tree, var}
 use Rattle.dt_model.specs.Widths.{width_at}
 use Rattle.dt_walk.specs.Meaning.{Vars, bound}
 use Rattle.dt_manual.specs.Entry.{field, N, leaf, judged, led, page_of}
@@ -12,7 +12,7 @@ use Rattle.dt_stage.specs.Tells.{Graph, Told, tells}
 use Rattle.dt_stage.specs.Trees.{bit}
 use Rattle.dt_stage.specs.Values.{Has}
 use Rattle.dt_stage.proofs.Goes.{goes_branch, goes_bind}
-use Rattle.dt_stage.proofs.OneLevel.{h_var, bound_here}
+use Rattle.dt_stage.proofs.OneLevel.{first_at, h_var, bound_here}
 use Rattle.dt_stage.proofs.Values.{h_part, s_bit, h_joined}
 use Rattle.dt_sv39.proofs.Walks.{from_zero, leaf_2, leaf_1}
 use Rattle.dt_sv39x4.specs.Shipped.{leads, held, result_nodes}
@@ -21,9 +21,6 @@ use Rattle.dt_sv39x4.specs.declared.results.Results.{Results}
 
 pub no_more : (n : ℕ) → n ≡ n + 0
 no_more n = omega arith
-
-pub first_at : (g : List ActData) (at : ℕ) (o : Option ActData) → slice_get g (at + 0) ≡ o → slice_get g at ≡ o
-first_at g at o h = subst (λ j. slice_get g j ≡ o) (sym (no_more at)) h
 
 -- ---- numbers
 

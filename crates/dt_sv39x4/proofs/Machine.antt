@@ -22,6 +22,7 @@ use Rattle.dt_stage.specs.Trees.{is}
 use Rattle.dt_stage.proofs.Goes.{goes_branch, goes_fault}
 use Rattle.dt_stage.proofs.Values.{Has, Says, s_bit, s_no, s_both, s_either, s_is, s_choose, s_as}
 use Rattle.dt_sv39.specs.Expected.{kind_number, inputs_of}
+use Rattle.dt_sv39.specs.Shipped as sv39
 use Rattle.dt_sv39.proofs.Machine.{fetches, storing, allowing}
 use Rattle.dt_sv39x4.specs.declared.permission.Permission.TheVariants.{Virtual, Implicit as OfRead, Explicit as OfGuest}
 use Rattle.dt_sv39x4.specs.Shipped as shipped
@@ -47,13 +48,13 @@ h_vsatp c a w = record { is = refl }
 pub h_hgatp : (c : Sv39x4Setting) (a : Access) (w : Vars) → Has (env c a) w shipped.hgatp 64 c.hgatp
 h_hgatp c a w = record { is = refl }
 
-pub h_va : (c : Sv39x4Setting) (a : Access) (w : Vars) → Has (env c a) w shipped.va 64 a.va
+pub h_va : (c : Sv39x4Setting) (a : Access) (w : Vars) → Has (env c a) w sv39.va 64 a.va
 h_va c a w = record { is = refl }
 
-h_kind : (c : Sv39x4Setting) (a : Access) (w : Vars) → Has (env c a) w shipped.kind 2 (kind_number a.kind)
+h_kind : (c : Sv39x4Setting) (a : Access) (w : Vars) → Has (env c a) w sv39.kind 2 (kind_number a.kind)
 h_kind c a w = record { is = refl }
 
-s_user : (c : Sv39x4Setting) (a : Access) (w : Vars) → Says (env c a) w shipped.user a.user
+s_user : (c : Sv39x4Setting) (a : Access) (w : Vars) → Says (env c a) w sv39.user a.user
 s_user c a w = record { is = refl }
 
 s_sum : (c : Sv39x4Setting) (a : Access) (w : Vars) → Says (env c a) w shipped.sum c.sum
@@ -67,10 +68,10 @@ s_hmxr c a w = record { is = refl }
 
 -- ---- which leaf entries may be used
 
-s_store : (c : Sv39x4Setting) (a : Access) (w : Vars) → Says (env c a) w shipped.is_store (vs_stage c a).stores
+s_store : (c : Sv39x4Setting) (a : Access) (w : Vars) → Says (env c a) w sv39.is_store (vs_stage c a).stores
 s_store c a w = s_as (s_is 2 2 (h_kind c a w)) (storing a.kind)
 
-s_allows : (c : Sv39x4Setting) (a : Access) (w : Vars) (mxr : Tree) (b : Bool) (t : Tree) (e : ℕ) → Says (env c a) w mxr b → Has (env c a) w t 64 e → Says (env c a) w (shipped.allows mxr t) (allows a.kind b e)
+s_allows : (c : Sv39x4Setting) (a : Access) (w : Vars) (mxr : Tree) (b : Bool) (t : Tree) (e : ℕ) → Says (env c a) w mxr b → Has (env c a) w t 64 e → Says (env c a) w (sv39.allows mxr t) (allows a.kind b e)
 s_allows c a w mxr b t e s h =
     s_as (s_choose (s_is 2 0 (h_kind c a w)) (s_bit 3 h) (s_choose (s_is 2 2 (h_kind c a w)) (s_bit 2 h) (s_either (s_bit 1 h) (s_both s (s_bit 3 h))))) (allowing a.kind b e)
 
@@ -97,8 +98,8 @@ guest_tested c a x cell granule leaf wide = record {
 
 pub page_faults : (c : Sv39x4Setting) (m : Memory) (a : Access) (w : Vars) → tells (graph c m a) 136 w ≡ ends (Fault (fault_node page_fault a.kind) (code_of page_fault a.kind))
 page_faults c m a w =
-    goes_branch (graph c m a) (forward c m a) 136 (is shipped.kind 2 0) 137 138 w (eqb (kind_number a.kind) 0) refl (s_is 2 0 (h_kind c a w)).is
-    ∙ ap (λ t. if eqb (kind_number a.kind) 0 then tells (graph c m a) 137 w else t) (goes_branch (graph c m a) (forward c m a) 138 (is shipped.kind 2 1) 139 140 w (eqb (kind_number a.kind) 1) refl (s_is 2 1 (h_kind c a w)).is)
+    goes_branch (graph c m a) (forward c m a) 136 (is sv39.kind 2 0) 137 138 w (eqb (kind_number a.kind) 0) refl (s_is 2 0 (h_kind c a w)).is
+    ∙ ap (λ t. if eqb (kind_number a.kind) 0 then tells (graph c m a) 137 w else t) (goes_branch (graph c m a) (forward c m a) 138 (is sv39.kind 2 1) 139 140 w (eqb (kind_number a.kind) 1) refl (s_is 2 1 (h_kind c a w)).is)
     ∙ by a.kind
   where
     by : (k : Kind) → (if eqb (kind_number k) 0 then tells (graph c m a) 137 w else (if eqb (kind_number k) 1 then tells (graph c m a) 139 w else tells (graph c m a) 140 w)) ≡ ends (Fault (fault_node page_fault k) (code_of page_fault k))
@@ -108,8 +109,8 @@ page_faults c m a w =
 
 pub access_faults : (c : Sv39x4Setting) (m : Memory) (a : Access) (w : Vars) → tells (graph c m a) 141 w ≡ ends (Fault (fault_node access_fault a.kind) (code_of access_fault a.kind))
 access_faults c m a w =
-    goes_branch (graph c m a) (forward c m a) 141 (is shipped.kind 2 0) 142 143 w (eqb (kind_number a.kind) 0) refl (s_is 2 0 (h_kind c a w)).is
-    ∙ ap (λ t. if eqb (kind_number a.kind) 0 then tells (graph c m a) 142 w else t) (goes_branch (graph c m a) (forward c m a) 143 (is shipped.kind 2 1) 144 145 w (eqb (kind_number a.kind) 1) refl (s_is 2 1 (h_kind c a w)).is)
+    goes_branch (graph c m a) (forward c m a) 141 (is sv39.kind 2 0) 142 143 w (eqb (kind_number a.kind) 0) refl (s_is 2 0 (h_kind c a w)).is
+    ∙ ap (λ t. if eqb (kind_number a.kind) 0 then tells (graph c m a) 142 w else t) (goes_branch (graph c m a) (forward c m a) 143 (is sv39.kind 2 1) 144 145 w (eqb (kind_number a.kind) 1) refl (s_is 2 1 (h_kind c a w)).is)
     ∙ by a.kind
   where
     by : (k : Kind) → (if eqb (kind_number k) 0 then tells (graph c m a) 142 w else (if eqb (kind_number k) 1 then tells (graph c m a) 144 w else tells (graph c m a) 145 w)) ≡ ends (Fault (fault_node access_fault k) (code_of access_fault k))
@@ -119,8 +120,8 @@ access_faults c m a w =
 
 pub guest_faults : (c : Sv39x4Setting) (m : Memory) (a : Access) (w : Vars) → tells (graph c m a) 146 w ≡ ends (Fault (fault_node guest_fault a.kind) (code_of guest_fault a.kind))
 guest_faults c m a w =
-    goes_branch (graph c m a) (forward c m a) 146 (is shipped.kind 2 0) 147 148 w (eqb (kind_number a.kind) 0) refl (s_is 2 0 (h_kind c a w)).is
-    ∙ ap (λ t. if eqb (kind_number a.kind) 0 then tells (graph c m a) 147 w else t) (goes_branch (graph c m a) (forward c m a) 148 (is shipped.kind 2 1) 149 150 w (eqb (kind_number a.kind) 1) refl (s_is 2 1 (h_kind c a w)).is)
+    goes_branch (graph c m a) (forward c m a) 146 (is sv39.kind 2 0) 147 148 w (eqb (kind_number a.kind) 0) refl (s_is 2 0 (h_kind c a w)).is
+    ∙ ap (λ t. if eqb (kind_number a.kind) 0 then tells (graph c m a) 147 w else t) (goes_branch (graph c m a) (forward c m a) 148 (is sv39.kind 2 1) 149 150 w (eqb (kind_number a.kind) 1) refl (s_is 2 1 (h_kind c a w)).is)
     ∙ by a.kind
   where
     by : (k : Kind) → (if eqb (kind_number k) 0 then tells (graph c m a) 147 w else (if eqb (kind_number k) 1 then tells (graph c m a) 149 w else tells (graph c m a) 150 w)) ≡ ends (Fault (fault_node guest_fault k) (code_of guest_fault k))

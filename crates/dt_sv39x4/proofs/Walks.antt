@@ -1,7 +1,7 @@
 -- The shipped model's walk is the manual's, from what the nodes of its five stages owe.
 use Rattle.std.proofs.Common.{◌≡◌, ℕ, ◌*◌, ◌^◌, ◌<◌, Bool, true, false, not, ◌&&◌, ◌||◌, eqb, List, [], ◌++◌, map, Some, refl, sym, ap, ◌∙◌, subst}
 use Rattle.std.specs.Prelude.{if◌then◌else◌, slice_get}
-use Rattle.std.proofs.lemmas.Bool.{true≢false, eqb-true}
+use Rattle.std.proofs.lemmas.Bool.{true≢false, and_parts, eqb-true}
 use Rattle.dt_bits.specs.Memory.{Memory}
 use Rattle.dt_model.specs.ModelData.{ModelData, value, bind}
 use Rattle.dt_model.specs.Faults.{steps}
@@ -23,7 +23,7 @@ use Rattle.dt_stage.proofs.Parts.{map_append}
 use Rattle.dt_stage.proofs.Values.{h_part, s_is, s_either}
 use Rattle.dt_sv39.specs.Expected.{inputs_of}
 use Rattle.dt_sv39.specs.Law.{is_legal_satp}
-use Rattle.dt_sv39.specs.Shipped.{is_sign_extended}
+use Rattle.dt_sv39.specs.Shipped.{va, is_sign_extended}
 use Rattle.dt_sv39.proofs.Walks.{nothing_more}
 use Rattle.dt_sv39x4.specs.Expected.{regs_of, both_bare, expected}
 use Rattle.dt_sv39x4.specs.Law.{is_legal_hgatp, WalksAsManual}
@@ -52,10 +52,6 @@ last_of true true true z h j = refl
 last_of true true false z h j = absurd (true≢false (sym h ∙ j))
 last_of true false r z h j = absurd (true≢false (sym h ∙ j))
 last_of false q r z h j = absurd (true≢false (sym h ∙ j))
-
-right_of : (p q : Bool) → (p && q) ≡ true → q ≡ true
-right_of true q h = h
-right_of false q h = absurd (true≢false (sym h))
 
 is_aligned : (n : ℕ) → is_legal_hgatp n ≡ true → field 1 0 n ≡ 0
 is_aligned n h = by (eqb n 0) refl
@@ -120,7 +116,7 @@ module _ (owed_v : GoesByLevels virtual_stage) (owed_a : GoesByLevels (guest_sta
   -- ---- from the first node on
 
   bare : a.va < 2 ^ 64 → eqb c.vsatp 0 ≡ true → tells (graph c m a) 1 unbound ≡ k_vs c m a (reached a.va 0)
-  bare small z = goes_bind (graph c m a) (forward c m a) 1 15 shipped.va 94 unbound 64 a.va refl (h_va c a unbound).is ∙ vs_exit none 94 a.va (bound unbound 15 a.va) refl z refl small
+  bare small z = goes_bind (graph c m a) (forward c m a) 1 15 va 94 unbound 64 a.va refl (h_va c a unbound).is ∙ vs_exit none 94 a.va (bound unbound 15 a.va) refl z refl small
 
   if_canonical : (b : Bool) (x : Told) (w : Walked) → x ≡ goes read_node (k_vs c m a) w → (if b then x else k_vs c m a (stopped page_fault)) ≡ goes read_node (k_vs c m a) (if not b then ending (stopped page_fault) else w)
   if_canonical true x w h = h
@@ -150,4 +146,4 @@ module _ (owed_v : GoesByLevels virtual_stage) (owed_a : GoesByLevels (guest_sta
       ∙ by_names (both_bare c) a.kind (sv39x4_walk c m a)
 
 pub walks_as_manual : (d : ModelData) → d ≡ sv39x4_data → GoesByLevels virtual_stage → GoesByLevels (guest_stage guest_a) → GoesByLevels (guest_stage guest_b) → GoesByLevels (guest_stage guest_c) → GoesByLevels (guest_stage guest_final) → WalksAsManual d
-walks_as_manual d e owed_v owed_a owed_b owed_c owed_g = subst WalksAsManual (sym e) (λ c m a legal wide. sv39x4_same owed_v owed_a owed_b owed_c owed_g c m a (is_aligned c.hgatp (right_of (is_legal_satp c.vsatp) (is_legal_hgatp c.hgatp) legal)) wide)
+walks_as_manual d e owed_v owed_a owed_b owed_c owed_g = subst WalksAsManual (sym e) (λ c m a legal wide. sv39x4_same owed_v owed_a owed_b owed_c owed_g c m a (is_aligned c.hgatp (and_parts (is_legal_satp c.vsatp) (is_legal_hgatp c.hgatp) legal).1) wide)

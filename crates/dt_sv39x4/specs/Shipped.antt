@@ -1,11 +1,11 @@
 -- The shipped model of two stages, as plain data.
 use Rattle.std.specs.Prelude.{ℕ, ◌+◌, List, [], ◌∷◌, ◌++◌, codes}
 use Rattle.dt_model.specs.declared.model.Named.{Named}
-use Rattle.dt_model.specs.ModelData.{ModelData, Tree, value, reg, input, var, bind, branch, done, NodeData}
+use Rattle.dt_model.specs.ModelData.{ModelData, Tree, value, reg, var, bind, branch, done, NodeData}
 use Rattle.dt_stage.specs.Level.{Level, node}
 use Rattle.dt_stage.specs.Stage.{Shape, stage_nodes}
-use Rattle.dt_stage.specs.Trees.{bit, part, no, both, either, is, joined, choose}
-use Rattle.dt_sv39.specs.Shipped.{named, acts, entry_at, is_sign_extended, by_kind}
+use Rattle.dt_stage.specs.Trees.{bit, part, both, either, is, joined}
+use Rattle.dt_sv39.specs.Shipped.{named, acts, va, is_store, serves, allows, entry_at, is_sign_extended, by_kind, page_faults, access_faults, model_of}
 use Rattle.dt_sv39x4.specs.Names.{stage_names, result_names, guest_names}
 use Rattle.dt_sv39x4.specs.declared.permission.Permission.{Permission}
 use Rattle.dt_sv39x4.specs.declared.permission.Permission.TheVariants.{Virtual, Implicit, Explicit}
@@ -14,7 +14,7 @@ use Rattle.dt_sv39x4.specs.declared.results.Address.TheVariants.{OfAccess, OfGue
 use Rattle.dt_sv39x4.specs.declared.results.Results.{Results}
 use Rattle.dt_sv39x4.specs.declared.guest.Guest.{Guest}
 
--- ---- registers and inputs, by their positions
+-- ---- registers, by their positions
 
 abbrev pub vsatp : Tree
 vsatp = reg 0
@@ -31,17 +31,6 @@ vmxr = reg 3
 abbrev pub hmxr : Tree
 hmxr = reg 4
 
-abbrev pub va : Tree
-va = input 0
-
--- 0 for a fetch, 1 for a load, 2 for a store
-abbrev pub kind : Tree
-kind = input 1
-
--- 1 in VU-mode, 0 in VS-mode
-abbrev pub user : Tree
-user = input 2
-
 -- ---- where nodes stand
 
 abbrev pub at_page_fault : ℕ
@@ -55,20 +44,9 @@ at_guest_fault = 146
 
 -- ---- which leaf entries may be used
 
-abbrev pub is_store : Tree
-is_store = is kind 2 2
-
--- the page is executable, writable or readable as the kind asks, or executable with this MXR
-abbrev pub allows : Tree → Tree → Tree
-allows mxr e = choose (is kind 2 0) (bit 3 e) (choose is_store (bit 2 e) (either (bit 1 e) (both mxr (bit 3 e))))
-
--- the mode may use the page: U and, in VS-mode, SUM
-abbrev pub serves : Tree → Tree
-serves e = choose user (bit 4 e) (either (no (bit 4 e)) (both sum (no (is kind 2 0))))
-
 -- by the access in the VS-stage; by the read of an entry in the G-stage; by the access in the G-stage
 abbrev pub permits : Permission → Tree → Tree
-permits Virtual e = both (serves e) (allows (either vmxr hmxr) e)
+permits Virtual e = both (serves sum e) (allows (either vmxr hmxr) e)
 permits Implicit e = both (bit 4 e) (bit 1 e)
 permits Explicit e = both (bit 4 e) (allows hmxr e)
 
@@ -245,17 +223,11 @@ result name page = acts name (done (var 19) page)
 abbrev pub results : List NodeData
 results = result (codes "dbare") 12 ∷ result (codes "d30") 30 ∷ result (codes "d21") 21 ∷ result (codes "d16") 16 ∷ result (codes "d12") 12 ∷ []
 
-abbrev pub page_faults : List NodeData
-page_faults = by_kind (codes "page_fault") (codes "pf12") (codes "page_fault_data") (codes "pf13") (codes "pf15") at_page_fault 12 13 15
-
-abbrev pub access_faults : List NodeData
-access_faults = by_kind (codes "access_fault") (codes "af1") (codes "access_fault_data") (codes "af5") (codes "af7") at_access_fault 1 5 7
-
 abbrev pub guest_faults : List NodeData
 guest_faults = by_kind (codes "guest_fault") (codes "gf20") (codes "guest_fault_data") (codes "gf21") (codes "gf23") at_guest_fault 20 21 23
 
 abbrev pub faults : List NodeData
-faults = page_faults ++ (access_faults ++ guest_faults)
+faults = page_faults at_page_fault ++ (access_faults at_access_fault ++ guest_faults)
 
 -- ---- the model
 
@@ -283,17 +255,9 @@ vsatp_rule = either (is (part 63 60 vsatp) 4 8) (is vsatp 64 0)
 abbrev pub hgatp_rule : Tree
 hgatp_rule = either (both (is (part 63 60 hgatp) 4 8) (both (is (part 59 58 hgatp) 2 0) (is (part 1 0 hgatp) 2 0))) is_bare
 
-abbrev pub access_rule : Tree
-access_rule = no (is kind 2 3)
+abbrev pub regs : List Named
+regs = named (codes "vsatp") 64 ∷ named (codes "hgatp") 64 ∷ named (codes "sum") 1 ∷ named (codes "vmxr") 1 ∷ named (codes "hmxr") 1 ∷ []
 
+-- the accesses are those of Sv39: user is 1 in VU-mode and 0 in VS-mode
 abbrev pub sv39x4_data : ModelData
-sv39x4_data = record {
-  word = 64;
-  address = 56;
-  regs = named (codes "vsatp") 64 ∷ named (codes "hgatp") 64 ∷ named (codes "sum") 1 ∷ named (codes "vmxr") 1 ∷ named (codes "hmxr") 1 ∷ [];
-  inputs = named (codes "va") 64 ∷ named (codes "kind") 2 ∷ named (codes "user") 1 ∷ [];
-  vars = vars;
-  legal_context = vsatp_rule ∷ hgatp_rule ∷ [];
-  legal_access = access_rule ∷ [];
-  nodes = nodes;
-}
+sv39x4_data = model_of regs vars (vsatp_rule ∷ hgatp_rule ∷ []) nodes

@@ -1,50 +1,14 @@
 // The faults, by the kind of the access.
 ghost use Rattle.std.specs.Prelude.{◌≡◌, map, IfOk};
 ghost use Rattle.dt_model.specs.ModelData.{node_of};
-ghost use Rattle.dt_sv39x4.specs.Shipped.{page_faults as shipped_page_faults, access_faults as shipped_access_faults, guest_faults as shipped_guest_faults, faults as shipped_faults};
+ghost use Rattle.dt_sv39x4.specs.Shipped.{guest_faults as shipped_guest_faults, faults as shipped_faults};
 
 use crate::guest::chained;
 use crate::positions::{ACCESS_FAULT, GUEST_FAULT, PAGE_FAULT};
 use dt_bits::NoMemory;
 use dt_model::Node;
-use dt_sv39::{KindCodes, KindNames, by_kind};
+use dt_sv39::{KindCodes, KindNames, access_faults, by_kind, page_faults};
 use std::alloc::Global;
-
-fn page_faults(alloc: Global) -> Result<Vec<Node>, NoMemory>
-    ensures { IfOk result (λ v. map node_of v.items ≡ shipped_page_faults) }
-{
-    let names = KindNames {
-        first: b"page_fault",
-        fetch: b"pf12",
-        second: b"page_fault_data",
-        load: b"pf13",
-        store: b"pf15",
-    };
-    let codes = KindCodes {
-        fetch: 12,
-        load: 13,
-        store: 15,
-    };
-    by_kind(alloc, names, PAGE_FAULT, codes)
-}
-
-fn access_faults(alloc: Global) -> Result<Vec<Node>, NoMemory>
-    ensures { IfOk result (λ v. map node_of v.items ≡ shipped_access_faults) }
-{
-    let names = KindNames {
-        first: b"access_fault",
-        fetch: b"af1",
-        second: b"access_fault_data",
-        load: b"af5",
-        store: b"af7",
-    };
-    let codes = KindCodes {
-        fetch: 1,
-        load: 5,
-        store: 7,
-    };
-    by_kind(alloc, names, ACCESS_FAULT, codes)
-}
 
 fn guest_faults(alloc: Global) -> Result<Vec<Node>, NoMemory>
     ensures { IfOk result (λ v. map node_of v.items ≡ shipped_guest_faults) }
@@ -68,7 +32,7 @@ fn guest_faults(alloc: Global) -> Result<Vec<Node>, NoMemory>
 pub fn faults(alloc: Global) -> Result<Vec<Node>, NoMemory>
     ensures { IfOk result (λ v. map node_of v.items ≡ shipped_faults) }
 {
-    let others = chained(access_faults(alloc)?, guest_faults(alloc)?)?;
-    let all = chained(page_faults(alloc)?, others)?;
+    let others = chained(access_faults(alloc, ACCESS_FAULT)?, guest_faults(alloc)?)?;
+    let all = chained(page_faults(alloc, PAGE_FAULT)?, others)?;
     Ok(all)
 }

@@ -3,12 +3,12 @@ ghost use Rattle.std.specs.Prelude.{◌≡◌, IfOk};
 ghost use Rattle.dt_model.specs.ModelData.{tree_of, var};
 ghost use Rattle.dt_stage.specs.Level.{level_of};
 ghost use Rattle.dt_stage.specs.Trees.{bit as one_bit};
-ghost use Rattle.dt_sv39x4.specs.Shipped.{allows as allowed, serves as served, permits as permitted, stores as storing, level as placed_level};
+ghost use Rattle.dt_sv39x4.specs.Shipped.{permits as permitted, stores as storing, level as placed_level};
 
 use dt_bits::NoMemory;
 use dt_model::Expr;
-use dt_stage::{Level, bit, both, choose, either, no};
-use dt_sv39::kind_is;
+use dt_stage::{Level, bit, both, either};
+use dt_sv39::{allows, kind_is, serves};
 use std::alloc::Global;
 
 const SUM: u32 = 2;
@@ -16,10 +16,6 @@ const SUM: u32 = 2;
 const VMXR: u32 = 3;
 
 const HMXR: u32 = 4;
-
-const USER: u32 = 2;
-
-const FETCH: u128 = 0;
 
 const STORE: u128 = 2;
 
@@ -30,33 +26,6 @@ pub enum Permission {
     Virtual,
     Implicit,
     Explicit,
-}
-
-// The page of entry `e` is executable, writable or readable as the kind asks, or executable with MXR.
-fn allows(alloc: Global, mxr: Expr, e: u32) -> Result<Expr, NoMemory>
-    ensures { IfOk result (λ t. tree_of t ≡ allowed (tree_of mxr) (var e)) }
-{
-    let executable = both(alloc, mxr, bit(alloc, 3, Expr::Var(e))?)?;
-    let loads = either(alloc, bit(alloc, 1, Expr::Var(e))?, executable)?;
-    let stores = bit(alloc, 2, Expr::Var(e))?;
-    let others = choose(alloc, kind_is(alloc, STORE)?, stores, loads)?;
-    let fetches = bit(alloc, 3, Expr::Var(e))?;
-    choose(alloc, kind_is(alloc, FETCH)?, fetches, others)
-}
-
-// The mode may use the page of entry `e`: U and, in VS-mode, SUM.
-fn serves(alloc: Global, e: u32) -> Result<Expr, NoMemory>
-    ensures { IfOk result (λ t. tree_of t ≡ served (var e)) }
-{
-    let no_u = no(alloc, bit(alloc, 4, Expr::Var(e))?)?;
-    let with_sum = both(alloc, Expr::Reg(SUM), no(alloc, kind_is(alloc, FETCH)?)?)?;
-    let supervisor = either(alloc, no_u, with_sum)?;
-    choose(
-        alloc,
-        Expr::Input(USER),
-        bit(alloc, 4, Expr::Var(e))?,
-        supervisor,
-    )
 }
 
 // U of entry `e`.
@@ -73,7 +42,8 @@ fn permits(alloc: Global, permission: Permission, e: u32) -> Result<Expr, NoMemo
     match permission {
         Permission::Virtual => {
             let mxr = either(alloc, Expr::Reg(VMXR), Expr::Reg(HMXR))?;
-            both(alloc, serves(alloc, e)?, allows(alloc, mxr, e)?)
+            let served = serves(alloc, Expr::Reg(SUM), e)?;
+            both(alloc, served, allows(alloc, mxr, e)?)
         }
         Permission::Implicit => {
             let readable = bit(alloc, 1, Expr::Var(e))?;

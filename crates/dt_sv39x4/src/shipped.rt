@@ -3,7 +3,7 @@ ghost use Rattle.std.specs.Prelude.{◌≡◌, map, IfOk};
 ghost use Rattle.dt_model.specs.Accepted.{accepted_data};
 ghost use Rattle.dt_model.specs.ModelData.{tree_of, node_of, data_of};
 ghost use Rattle.dt_stage.specs.Stage.{GoesByLevels};
-ghost use Rattle.dt_sv39x4.specs.Shipped.{guest_stage, guest_a, guest_b, guest_c, guest_final, virtual_stage, behind as shipped_behind, nodes as shipped_nodes, vsatp_rule as shipped_vsatp_rule, hgatp_rule as shipped_hgatp_rule, access_rule as shipped_access_rule, sv39x4_data};
+ghost use Rattle.dt_sv39x4.specs.Shipped.{guest_stage, guest_a, guest_b, guest_c, guest_final, virtual_stage, behind as shipped_behind, nodes as shipped_nodes, vsatp_rule as shipped_vsatp_rule, hgatp_rule as shipped_hgatp_rule, sv39x4_data};
 ghost use Rattle.dt_sv39x4.specs.Law.{WalksAsManual, IsLegalAsManual};
 
 use crate::choice::{choice, guest_pages, results, virtual_pages};
@@ -11,10 +11,10 @@ use crate::entries::{final_nodes, head, led_nodes, virtual_nodes};
 use crate::faults::faults;
 use crate::guest::chained;
 use crate::vars::vars;
-use dt_bits::{NoMemory, Seq};
+use dt_bits::NoMemory;
 use dt_model::{Accepted, Expr, Model, Node};
-use dt_stage::{both, either, is, no, part};
-use dt_sv39::{kind_is, named};
+use dt_stage::{both, either, is, part};
+use dt_sv39::{model_of, named};
 use std::alloc::Global;
 
 const VSATP: u32 = 0;
@@ -66,13 +66,6 @@ fn hgatp_rule(alloc: Global) -> Result<Expr, NoMemory>
     either(alloc, mapped, is(alloc, Expr::Reg(HGATP), 64, 0)?)
 }
 
-// The kind is one of the three.
-fn access_rule(alloc: Global) -> Result<Expr, NoMemory>
-    ensures { IfOk result (λ e. tree_of e ≡ shipped_access_rule) }
-{
-    no(alloc, kind_is(alloc, 3)?)
-}
-
 fn model(alloc: Global) -> Result<Model, NoMemory>
     ensures same { IfOk result (λ m. data_of m ≡ sv39x4_data) }
     ensures v { IfOk result (λ m. GoesByLevels virtual_stage) }
@@ -88,21 +81,8 @@ fn model(alloc: Global) -> Result<Model, NoMemory>
         named(b"vmxr", 1),
         named(b"hmxr", 1),
     ]?;
-    let inputs = vec![in alloc; named(b"va", 64), named(b"kind", 2), named(b"user", 1)]?;
-    let vars = vars(alloc)?;
-    let context = vsatp_rule(alloc)?;
-    let second = hgatp_rule(alloc)?;
-    let access = access_rule(alloc)?;
-    Ok(Model {
-        word: 64,
-        address: 56,
-        regs: Seq::from_vec(regs),
-        inputs: Seq::from_vec(inputs),
-        vars: Seq::from_vec(vars),
-        legal_context: Seq::from_vec(vec![in alloc; context, second]?),
-        legal_access: Seq::from_vec(vec![in alloc; access]?),
-        nodes: Seq::from_vec(nodes(alloc)?),
-    })
+    let context = vec![in alloc; vsatp_rule(alloc)?, hgatp_rule(alloc)?]?;
+    model_of(alloc, regs, vars(alloc)?, context, nodes(alloc)?)
 }
 
 // It is the shipped model, which has a certificate.

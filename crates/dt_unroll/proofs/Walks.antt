@@ -1,6 +1,5 @@
 -- A walk that is put node by node, and rules that are required one by one.
-use Rattle.std.proofs.Common.{◌≡◌, ℕ, zero, suc, ◌+◌, ◌<◌, ◌≤◌, List, [], ◌∷◌, ◌++◌, length, get_or, drop, Some, map, sym, ap, ◌∙◌, subst, arith, append_assoc}
-use Rattle.std.specs.Prelude.{slice_get}
+use Rattle.std.proofs.Common.{◌≡◌, ℕ, ◌+◌, ◌<◌, ◌≤◌, List, [], ◌∷◌, ◌++◌, length, get_or, drop, map, sym, ap, ◌∙◌, subst, arith, append_assoc}
 use Rattle.std.proofs.lemmas.List.{append-nil, drop_all, drop_more}
 use Rattle.dt_model.specs.declared.model.Node.{Node}
 use Rattle.dt_model.specs.ModelData.{ActData, act_of}
@@ -8,7 +7,7 @@ use Rattle.dt_model.specs.Flow.{steps_of}
 use Rattle.dt_model.specs.Widths.{Scope}
 use Rattle.dt_model.proofs.Nodes.{step_at}
 use Rattle.dt_walk.specs.Sound.{IsSound, AreSound}
-use Rattle.dt_walk.proofs.Walks.{length_steps}
+use Rattle.dt_walk.proofs.Walks.{drop_at_step, length_steps}
 use Rattle.dt_terms.specs.Additions.{with_required}
 use Rattle.dt_terms.specs.Problem.{ProblemData}
 use Rattle.dt_forms.specs.Forms.{Form, form_placed, all_required}
@@ -24,11 +23,6 @@ use Rattle.dt_build.proofs.Demanded.{demanded_none}
 pub record Rest (a : Access) (s : State) (ps : List ActData) (n : ℕ) (outs : List Out) (w : Walked) : Type 0 where
   pub terms : (walk_placed a s ps n).terms ≡ w.terms
   pub outs_are : outs ++ (walk_placed a s ps n).outs ≡ w.outs
-
-drop_at_step : (ps : List ActData) (k : ℕ) (p : ActData) → slice_get ps k ≡ Some p → drop k ps ≡ p ∷ drop (k + 1) ps
-drop_at_step [] k p e = cc
-drop_at_step (q ∷ ps) zero p e = let s : q ≡ p = cc in ap (λ (t : ActData). t ∷ ps) s
-drop_at_step (q ∷ ps) (suc k) p e = let m : suc (k + 1) ≡ suc k + 1 = omega arith in subst (λ j. drop (suc k) (q ∷ ps) ≡ p ∷ drop j (q ∷ ps)) m (drop_at_step ps k p e)
 
 rest_of : (a : Access) (s t u : State) (p : ActData) (ps : List ActData) (n : ℕ) (outs : List Out) (o : Out) (w : Walked)
     → t ≡ noted s n → u ≡ (passed a t n p).state → o ≡ (passed a t n p).out → Rest a s (p ∷ ps) n outs w → Rest a u ps (n + 1) (outs ++ o ∷ []) w

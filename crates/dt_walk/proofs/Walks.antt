@@ -10,7 +10,8 @@ use Rattle.dt_bits.specs.Memory.{Memory}
 use Rattle.dt_walk.specs.Meaning.{EnvData, Vars}
 use Rattle.dt_walk.specs.Walks.{acted, walk_from}
 
-drop_at_step : (ps : List ActData) (k : ℕ) (p : ActData) → slice_get ps k ≡ Some p → drop k ps ≡ p ∷ drop (k + 1) ps
+-- what is left from an element on
+pub drop_at_step : (ps : List ActData) (k : ℕ) (p : ActData) → slice_get ps k ≡ Some p → drop k ps ≡ p ∷ drop (k + 1) ps
 drop_at_step [] k p e = cc
 drop_at_step (q ∷ ps) zero p e = let s : q ≡ p = cc in ap (λ (t : ActData). t ∷ ps) s
 drop_at_step (q ∷ ps) (suc k) p e = let m : suc (k + 1) ≡ suc k + 1 = omega arith in subst (λ j. drop (suc k) (q ∷ ps) ≡ p ∷ drop j (q ∷ ps)) m (drop_at_step ps k p e)
