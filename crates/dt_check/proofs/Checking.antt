@@ -1,7 +1,6 @@
 -- The state of the checker, item by item.
-use Rattle.std.proofs.Common.{◌≡◌, ℕ, ◌+◌, ◌<◌, ◌≤◌, Bool, true, false, eqb, refl, List, [], ◌∷◌, ◌++◌, length, take, reverse, Option, Some, None, sym, ap, ◌∙◌, subst, arith}
-use Rattle.std.specs.Prelude.{All, is_none}
-use Rattle.std.proofs.lemmas.Bool.{and_parts, eqb-true, false≢true}
+use Rattle.std.proofs.Common.{◌≡◌, ℕ, ◌+◌, ◌<◌, ◌≤◌, Bool, true, false, refl, List, [], ◌∷◌, ◌++◌, length, take, reverse, Option, Some, None, sym, ap, ◌∙◌, subst, arith}
+use Rattle.std.specs.Prelude.{All}
 use Rattle.std.proofs.lemmas.List.{length-take-le}
 use Rattle.std.proofs.lemmas.List.Elements.{All-take, All-nil}
 use Rattle.dt_lemmas.proofs.Equalities.{two}
@@ -24,17 +23,9 @@ use Rattle.dt_check.specs.declared.checker.Finding.TheVariants.{Passed, Ended, R
 use Rattle.dt_check.specs.Accepting.{SplitTrial}
 use Rattle.dt_check.specs.Reading.{reading, close_cause, split_cause, split_trial, loose_cause, unvisited_cause, step_cause}
 use Rattle.dt_check.specs.Waiting.{waiting, Stacked, CanBegin, AtSplits, IsNext, IsBegun}
-use Rattle.dt_check.specs.Checking.{State, state, left, WasSettled, is_first, IsKeptAt, settled_at, UnderBudget, IsSplitAt, IsState, IsTreeEnded, IsFound, step_line}
+use Rattle.dt_check.specs.Checking.{State, state, left, WasSettled, IsKeptAt, settled_at, UnderBudget, IsSplitAt, IsState, IsTreeEnded, IsFound, step_line}
 use Rattle.dt_check.proofs.Passing.{split_passed, split_trial_passed}
 use Rattle.dt_check.proofs.Waiting.{stacked_more, waiting_kept, turned}
-
-empty : {X : Type 0} (xs : List X) → length xs ≡ 0 → xs ≡ []
-empty [] e = refl
-empty (x ∷ xs) e = absurd (omega (arith, e))
-
-none : {X : Type 0} (o : Option X) → is_none o ≡ true → o ≡ None
-none None e = refl
-none (Some x) e = absurd (false≢true e)
 
 -- where nothing changes, nothing is kept
 pub kept_same : {D : Type 0} (cells : List D) (trail : List (ℕ × D)) (first : Bool) → IsKeptAt first cells trail cells trail
@@ -68,13 +59,6 @@ module _ (D : Type 0) (ops : DomainOps D) where
       → WasSettled ops terms cells trail (settled_at claim n)
   was_at terms Impossible cells trail n l h = tt
   was_at terms (Budget limit) cells trail n l h = (l, h)
-
-  -- before the first split
-  pub first_parts : (s : State D) → is_first s ≡ true → (s.trail ≡ []) × (s.pending ≡ []) × (s.settled ≡ None)
-  first_parts s e =
-      let p = and_parts (eqb (length s.trail) 0) _ e in
-      let q = and_parts (eqb (length s.pending) 0) _ p.1 in
-      (empty s.trail (eqb-true _ _ p.0), empty s.pending (eqb-true _ _ q.0), none s.settled q.1)
 
   -- after changes that were kept
   pub state_kept : (terms : List Term) (claim : Claim) (s : State D) (new : List D) (longer : List (ℕ × D)) → IsState ops terms claim s → AreCells ops terms new → IsKept s.cells s.trail new longer
