@@ -8,7 +8,7 @@ use crate::node::{node_in, term_count};
 use crate::nodes::NodeTable;
 use dt_bits::{Bv, NoMemory, Op, Width};
 use dt_forms::Folded;
-use dt_terms::Problem;
+use dt_terms::{Problem, Term};
 use std::alloc::Global;
 use std::marker::Model;
 
@@ -188,6 +188,13 @@ impl Builder {
         ensures placed { OnOk result (self.new ≡ placed_in self.old (claim_placed self.old.terms (form1 (Shr exponent) (term a)))) }
     {
         self.fold(Op::Shr { by: exponent }, a, 0, 0)
+    }
+
+    /// What stands so far: the choices, and then the nodes in the order in which they were put.
+    pub fn terms(&self) -> &[Term]
+        ensures { result.now ≡ self.now.terms }
+    {
+        self.problem.terms.as_slice()
     }
 
     /// The problem that was built.

@@ -85,6 +85,14 @@ grown : {A : Type 0} (old new one rest all whole : List A) → all ≡ one ++ re
 grown {A} old new one rest all whole e f h =
     ap (λ (l : List A). l ++ rest) f ∙ append_assoc old one rest ∙ ap (λ (l : List A). old ++ l) (sym e) ∙ h
 
+-- a turn of a loop that adds what one element gives
+pub gathered : {X A : Type 0} (all : List X → List A) (one : X → List A) → ((x : X) (xs : List X) → all (x ∷ xs) ≡ one x ++ all xs) → (old new whole : List A) (xs : List X) (i : ℕ) (d : X) → i < length xs
+    → new ≡ old ++ one (get_or xs i d) → old ++ all (drop i xs) ≡ whole → new ++ all (drop (i + 1) xs) ≡ whole
+gathered {X} all one first old new whole xs i d l e h =
+    let n : suc i ≡ i + 1 = omega arith in
+    let here : drop i xs ≡ get_or xs i d ∷ drop (i + 1) xs = drop-cons xs i d l ∙ ap (λ (k : ℕ). get_or xs i d ∷ drop k xs) n in
+    grown old new (one (get_or xs i d)) (all (drop (i + 1) xs)) (all (drop i xs)) whole (ap all here ∙ first (get_or xs i d) (drop (i + 1) xs)) e h
+
 -- no nodes are left, or nothing that stands for them
 pub none_left : {A P Q : Type 0} (F : List ActData → List Out → List A) (ns : List Node) (os : List Out) → P ⊎ Q → (P → length ns ≡ 0) → (Q → length os ≡ 0) → ((ps : List ActData) → F ps [] ≡ []) → F [] [] ≡ F [] os → F (steps_of ns) os ≡ []
 none_left F ns os s p q none same =

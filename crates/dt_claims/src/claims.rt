@@ -5,7 +5,8 @@ ghost use Rattle.dt_build.specs.Building.{claimed};
 ghost use Rattle.dt_table.specs.Pairs.{pair_forms};
 ghost use Rattle.dt_table.specs.Spots.{all_reads};
 ghost use Rattle.dt_table.specs.Extras.{all_extras};
-ghost use Rattle.dt_table.specs.Table.{wish_forms, page_forms, keep_forms, list_forms, claim_forms, extra_forms};
+ghost use Rattle.dt_table.specs.Unlike.{all_unlikes, unlike_forms};
+ghost use Rattle.dt_table.specs.Table.{list_access, wish_forms, page_forms, keep_forms, list_forms, claim_forms, extra_forms};
 ghost use Rattle.dt_claims.specs.Views.{rows_of, places_of};
 
 use crate::apart::require_pages_apart;
@@ -16,11 +17,12 @@ use crate::links::require_links;
 use crate::pairs::require_pairs;
 use crate::places::{Places, places_of};
 use crate::spots::{all_pages, all_reads};
+use crate::unlike::{all_unlikes, require_unlikes};
 use dt_bits::NoMemory;
 use dt_build::Builder;
 use dt_model::{Accepted, Model};
 use dt_request::Requests;
-use dt_table::Out;
+use dt_table::{Out, UnlikeWords};
 use dt_ways::access_ways;
 use std::alloc::Global;
 
@@ -110,7 +112,7 @@ fn require_all_extras(
     rows: &[Vec<Out>],
 ) -> Result<(), NoMemory>
     ensures { OnOk result (builder.new ≡ claimed builder.old
-        (extra_forms (data_of model.now) requests.now (rows_of rows.now))) }
+        (all_extras (data_of model.now) requests.now 0 (rows_of rows.now))) }
 {
     for (k, row) in rows.iter().enumerate() {
         let ways = access_ways(alloc, model, requests, k)?;
@@ -119,13 +121,28 @@ fn require_all_extras(
     Ok(())
 }
 
+// Words differ of which blocks that are apart are the same bits.
+fn require_differing(
+    builder: &mut Builder,
+    model: &Model,
+    requests: &Requests,
+    words: &[UnlikeWords],
+) -> Result<(), NoMemory>
+    ensures { OnOk result (builder.new ≡ claimed builder.old
+        (unlike_forms (list_access (data_of model.now) requests.now) words.now)) }
+{
+    let places = places_of(model, requests, 0, 0)?;
+    require_unlikes(builder, places, words)
+}
+
 /// Requires what the list asks of its accesses, but for their rules: made reads at one cell have one
 /// word, the demands, the links, that no page is on a table, the kept ranges, and the further forms
 /// that hold of each image that satisfies. A row of `outs` stands for an access, and has what stands
 /// for each node of its walk.
 ///
-/// It takes memory for the pages, tables and reads of all walks, and time for each two reads, for
-/// each page with each table, and for each kept range with each page and table.
+/// It takes memory for the pages, tables and reads of all walks and for each two pages that a link
+/// keeps apart, and time for each two reads, for each page with each table, and for each kept range
+/// with each page and table.
 ///
 /// # Errors
 ///
@@ -140,10 +157,12 @@ pub fn require_claims(
 ) -> Result<(), NoMemory>
     ensures { let d = accepted_data model.now in
         let rows = map (λ v. v.items) outs.now in
-        OnOk result (builder.new ≡ claimed builder.old (claim_forms d requests.now rows ++ extra_forms d requests.now rows)) }
+        OnOk result (builder.new ≡ claimed builder.old (claim_forms d requests.now rows ++ extra_forms d requests.now builder.old.terms rows)) }
 {
     let model = model.model();
+    let words = all_unlikes(alloc, model, requests, builder.terms(), outs)?;
     require_words(alloc, builder, model, requests, outs)?;
     require_list(alloc, builder, model, requests, outs)?;
-    require_all_extras(alloc, builder, model, requests, outs)
+    require_all_extras(alloc, builder, model, requests, outs)?;
+    require_differing(builder, model, requests, words.as_slice())
 }

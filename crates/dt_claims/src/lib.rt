@@ -20,6 +20,7 @@ mod places;
 mod sized;
 mod spots;
 mod terms;
+mod unlike;
 mod widths;
 
 pub use claims::require_claims;

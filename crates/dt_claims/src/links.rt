@@ -214,8 +214,8 @@ fn require_page_pairs(
     Ok(())
 }
 
-// The results of the walk of an access.
-fn access_pages(
+/// The results of the walk of an access.
+pub(crate) fn access_pages(
     alloc: Global,
     model: &Model,
     requests: &Requests,

@@ -36,11 +36,11 @@ started d r a b c e f g =
     g ∙ ap (λ (p : ProblemData). placed_in p (place_const p.terms 1 1)) second ∙ ap with_terms (one_placed (choices d r) (are_choices d r))
 
 -- the claims make it whole
-pub finished : (d : ModelData) (r : Requests) (p : ProblemData) (rows : List (List Out)) → p ≡ problem_of (built d r) → rows ≡ (built d r).outs → claimed p (claim_forms d r rows ++ extra_forms d r rows) ≡ table d r
+pub finished : (d : ModelData) (r : Requests) (p : ProblemData) (rows : List (List Out)) → p ≡ problem_of (built d r) → rows ≡ (built d r).outs → claimed p (claim_forms d r rows ++ extra_forms d r p.terms rows) ≡ table d r
 unfolding table
 finished d r p rows e f =
-    ap (λ (q : ProblemData). claimed q (claim_forms d r rows ++ extra_forms d r rows)) e
-    ∙ ap (λ (os : List (List Out)). claimed (problem_of (built d r)) (claim_forms d r os ++ extra_forms d r os)) f
+    ap (λ (q : ProblemData). claimed q (claim_forms d r rows ++ extra_forms d r q.terms rows)) e
+    ∙ ap (λ (os : List (List Out)). claimed (problem_of (built d r)) (claim_forms d r os ++ extra_forms d r (built d r).terms os)) f
 
 -- the image whose parts are told
 pub image_built : (d : ModelData) (r : Requests) (numbers xs : List ℕ) (bytes : ℕ) (ps : List ActData) (rows : List (List Out)) (words : List Word) (contexts : List (List ℕ)) (accesses : List ImageAccess)

@@ -216,8 +216,13 @@ pub table_starts : (v : Valuation) (d : ModelData) (r : Requests) → AreValues 
 unfolding table
 table_starts v d r h =
     let b = built d r in
-    let h1 : IsLawful v b.terms = (all_before AreValues fold fold_gives v (claim_forms d r b.outs ++ extra_forms d r b.outs) b.terms h).lawful in
+    let h1 : IsLawful v b.terms = (all_before AreValues fold fold_gives v (claim_forms d r b.outs ++ extra_forms d r b.terms b.outs) b.terms h).lawful in
     (h1, contexts_before v d (length r.contexts) 0 (start d r) (accesses_before v d r r.accesses (contexts_built d (start d r) (length r.contexts) 0) 0 h1))
+
+-- and so are those that stand before the claims
+pub table_built : (v : Valuation) (d : ModelData) (r : Requests) → AreValues v (table d r).terms → AreValues v (built d r).terms
+unfolding table
+table_built v d r h = let b = built d r in all_before AreValues fold fold_gives v (claim_forms d r b.outs ++ extra_forms d r b.terms b.outs) b.terms h
 
 pub table_placed : (v : Valuation) (d : ModelData) (r : Requests) → IsLawful v (built d r).terms → ArePlaced v d r 0 r.accesses (built d r).outs
 table_placed v d r h =
@@ -226,23 +231,23 @@ table_placed v d r h =
     let e : (built d r).outs ≡ p.0 = p.1 ∙ ap (λ (l : List (List Out)). l ++ p.0) (contexts_outs d (length r.contexts) 0 (start d r)) in
     subst (λ (l : List (List Out)). ArePlaced v d r 0 r.accesses l) (sym e) p.2
 
-pub table_solved : (v : Valuation) (d : ModelData) (r : Requests) → IsReady d → HaveForms (claim_forms d r (built d r).outs ++ extra_forms d r (built d r).outs) → AreValues v (table d r).terms → AreOnes v (table d r).required → IsSolved v d r
+pub table_solved : (v : Valuation) (d : ModelData) (r : Requests) → IsReady d → HaveForms (claim_forms d r (built d r).outs ++ extra_forms d r (built d r).terms (built d r).outs) → AreValues v (table d r).terms → AreOnes v (table d r).required → IsSolved v d r
 unfolding table
 table_solved v d r ready f h o =
     let b = built d r in
     let c = contexts_built d (start d r) (length r.contexts) 0 in
-    let s = forms_ones_by AreValues fold fold_gives v b (claim_forms d r b.outs ++ extra_forms d r b.outs) f h o in
-    let h1 : IsLawful v b.terms = (all_before AreValues fold fold_gives v (claim_forms d r b.outs ++ extra_forms d r b.outs) b.terms h).lawful in
+    let s = forms_ones_by AreValues fold fold_gives v b (claim_forms d r b.outs ++ extra_forms d r b.terms b.outs) f h o in
+    let h1 : IsLawful v b.terms = (all_before AreValues fold fold_gives v (claim_forms d r b.outs ++ extra_forms d r b.terms b.outs) b.terms h).lawful in
     let p = accesses_ones v d r r.accesses c 0 ready h1 s.0 in
     let q = contexts_ones v d (length r.contexts) 0 (start d r) ready (accesses_before v d r r.accesses c 0 h1) p.0 in
-    record { contexts = q.1; accesses = p.1; claims = (AllByRecursion-split (λ (g : Form). is_one (form_value v g) ≡ true) (claim_forms d r b.outs) (extra_forms d r b.outs) s.1).0 }
+    record { contexts = q.1; accesses = p.1; claims = (AllByRecursion-split (λ (g : Form). is_one (form_value v g) ≡ true) (claim_forms d r b.outs) (extra_forms d r b.terms b.outs) s.1).0 }
 
-pub solved_table : (v : Valuation) (d : ModelData) (r : Requests) → IsReady d → HaveForms (claim_forms d r (built d r).outs ++ extra_forms d r (built d r).outs) → AreValues v (table d r).terms → IsSolved v d r → Hold v (extra_forms d r (built d r).outs) → AreOnes v (table d r).required
+pub solved_table : (v : Valuation) (d : ModelData) (r : Requests) → IsReady d → HaveForms (claim_forms d r (built d r).outs ++ extra_forms d r (built d r).terms (built d r).outs) → AreValues v (table d r).terms → IsSolved v d r → Hold v (extra_forms d r (built d r).terms (built d r).outs) → AreOnes v (table d r).required
 unfolding table
 solved_table v d r ready f h s x =
     let b = built d r in
     let c = contexts_built d (start d r) (length r.contexts) 0 in
-    let h1 : IsLawful v b.terms = (all_before AreValues fold fold_gives v (claim_forms d r b.outs ++ extra_forms d r b.outs) b.terms h).lawful in
+    let h1 : IsLawful v b.terms = (all_before AreValues fold fold_gives v (claim_forms d r b.outs ++ extra_forms d r b.terms b.outs) b.terms h).lawful in
     let q = ones_contexts v d (length r.contexts) 0 (start d r) ready (accesses_before v d r r.accesses c 0 h1) tt s.contexts in
     let p = ones_accesses v d r r.accesses c 0 ready h1 q s.accesses in
-    ones_forms_by AreValues fold fold_gives v b (claim_forms d r b.outs ++ extra_forms d r b.outs) f h p (AllByRecursion-append (λ (g : Form). is_one (form_value v g) ≡ true) (claim_forms d r b.outs) (extra_forms d r b.outs) s.claims x)
+    ones_forms_by AreValues fold fold_gives v b (claim_forms d r b.outs ++ extra_forms d r b.terms b.outs) f h p (AllByRecursion-append (λ (g : Form). is_one (form_value v g) ≡ true) (claim_forms d r b.outs) (extra_forms d r b.terms b.outs) s.claims x)

@@ -162,9 +162,9 @@ table_extends d r =
     let s = start d r in
     let c = contexts_built d s (length r.contexts) 0 in
     let b = built d r in
-    let t = with_claims b (claim_forms d r b.outs ++ extra_forms d r b.outs) in
+    let t = with_claims b (claim_forms d r b.outs ++ extra_forms d r b.terms b.outs) in
     extends_on (choices d r) s.terms t.terms (bit_node 0 ∷ bit_node 1 ∷ [], refl, (refl, (refl, tt)))
-    (extends_on s.terms c.terms t.terms (contexts_extends d (length r.contexts) 0 s) (extends_on c.terms b.terms t.terms (accesses_extends d r r.accesses c 0) (all_extend fold fold_extends (claim_forms d r b.outs ++ extra_forms d r b.outs) b.terms)))
+    (extends_on s.terms c.terms t.terms (contexts_extends d (length r.contexts) 0 s) (extends_on c.terms b.terms t.terms (accesses_extends d r r.accesses c 0) (all_extend fold fold_extends (claim_forms d r b.outs ++ extra_forms d r b.terms b.outs) b.terms)))
 
 -- ---- choices
 

@@ -61,11 +61,12 @@ tables_sized address word terms ps os h =
 -- the terms of a read
 pub record IsReadSized (address word : ℕ) (terms : List Term) (o : Out) : Type 0 where
   pub by_then : IsSized terms o.by_then 1
+  pub away : IsSized terms o.away 1
   pub value : IsSized terms o.value address
   pub word_is : IsSized terms o.word word
 
 pub reads_sized : (address word : ℕ) (terms : List Term) (ps : List ActData) (os : List Out) → AllOuts (IsOutSized address word terms) ps os → AllByRecursion (IsReadSized address word terms) (reads_of ps os)
-reads_sized address word terms ps os h = reads_have (IsOutSized address word terms) (IsReadSized address word terms) (λ x e g t f o k. record { by_then = k.by_then; value = k.value refl; word_is = k.word_is refl }) ps os h
+reads_sized address word terms ps os h = reads_have (IsOutSized address word terms) (IsReadSized address word terms) (λ x e g t f o k. record { by_then = k.by_then; away = k.away; value = k.value refl; word_is = k.word_is refl }) ps os h
 
 -- ---- blocks
 
@@ -179,7 +180,7 @@ read_sized d terms os n h r =
     by_step p.0 p.2 (out_fact (IsOutSized d.address d.word terms) (steps d) os n p.0 h.outs h.count p.1)
   where
     by_step : (p : ActData) → is_read p ≡ true → IsOutSized d.address d.word terms p (out_at os n) → IsReadSized d.address d.word terms (out_at os n)
-    by_step (read x e g t f) e2 k = record { by_then = k.by_then; value = k.value refl; word_is = k.word_is refl }
+    by_step (read x e g t f) e2 k = record { by_then = k.by_then; away = k.away; value = k.value refl; word_is = k.word_is refl }
     by_step (bind x e t) e2 k = absurd (false≢true e2)
     by_step (branch e t o) e2 k = absurd (false≢true e2)
     by_step (fault c) e2 k = absurd (false≢true e2)
@@ -302,12 +303,12 @@ demands_fine d a terms os demands e w m h i = fine_flat terms (IsDemand d) (dema
 
 -- ---- links
 
-outs_sized_at : (d : ModelData) (terms : List Term) (oss : List (List Out)) (k : ℕ) → AllByRecursion (AreOutsSized d terms) oss → k < length oss → AreOutsSized d terms (outs_of oss k)
+pub outs_sized_at : (d : ModelData) (terms : List Term) (oss : List (List Out)) (k : ℕ) → AllByRecursion (AreOutsSized d terms) oss → k < length oss → AreOutsSized d terms (outs_of oss k)
 outs_sized_at d terms [] k h l = absurd (omega (arith, l))
 outs_sized_at d terms (os ∷ oss) zero h l = h.0
 outs_sized_at d terms (os ∷ oss) (suc k) h l = outs_sized_at d terms oss k h.1 (omega (arith, l))
 
-side_sized : (d : ModelData) (terms : List Term) (oss : List (List Out)) (s : Side) → AllByRecursion (AreOutsSized d terms) oss → IsSide d (length oss) s → IsReadSized d.address d.word terms (side_at d oss s).out
+pub side_sized : (d : ModelData) (terms : List Term) (oss : List (List Out)) (s : Side) → AllByRecursion (AreOutsSized d terms) oss → IsSide d (length oss) s → IsReadSized d.address d.word terms (side_at d oss s).out
 side_sized d terms oss s h i = read_sized d terms (outs_of oss s.access) s.node (outs_sized_at d terms oss s.access h i.0) i.1
 
 reads_fine : (d : ModelData) (terms : List Term) (form : Sized → Sized → Form) (x y : Sized) → IsReadSized d.address d.word terms x.out → IsReadSized d.address d.word terms y.out → IsFine terms (form x y) 1 → AreFine terms (reads_forms form x y)

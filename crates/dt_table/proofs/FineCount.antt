@@ -28,6 +28,8 @@ use Rattle.dt_table.proofs.FineWalks.{steps_size}
 use Rattle.dt_table.proofs.FineLists.{rules_size, access_size}
 use Rattle.dt_table.proofs.FineSizes.{dones_in, pages_count, tables_count, reads_count, aparts_size, pairs_size, keeps_size, wishes_size, links_size}
 use Rattle.dt_table.proofs.FineTable.{table_whole, wishes_of, wish_few}
+use Rattle.dt_table.specs.Unlike.{all_unlikes, unlike_forms}
+use Rattle.dt_table.proofs.FineUnlike.{unlikes_size}
 
 -- ---- operators and nodes
 
@@ -106,7 +108,7 @@ accesses_most d r a list within =
     let z = within.reads in
     omega (arith, l, s, t, u, v, w, y, z)
 
-every_most : (d : ModelData) (r : Requests) (oss : List (List Out)) → IsAccepted d → IsList d r → IsWithin d r → length oss ≡ length r.accesses → forms_size (every_claim d r oss) ≤ 1803264
+every_most : (d : ModelData) (r : Requests) (oss : List (List Out)) → IsAccepted d → IsList d r → IsWithin d r → length oss ≡ length r.accesses → forms_size (every_claim d r oss) ≤ 1802240
 every_most d r oss accepted list within same =
     let a = list_access d r in
     let A = length r.accesses in
@@ -138,9 +140,8 @@ every_most d r oss accepted list within same =
     let eight : D * 8 ≡ 8 * D = omega arith in
     let w2 : A * (D * 8) ≡ 8 * (A * D) = ap (λ (n : ℕ). A * n) eight ∙ mul_left_comm A 8 D in
     let v2 : A * D ≡ done_product d r = ap (λ (n : ℕ). A * n) dones in
-    let x3 = links_size d a oss r.links in
-    let one_link : D * (D * 6) + 4 ≤ 16 * (16 * 6) + 4 = (let m : D * (D * 6) ≤ 16 * (16 * 6) = mul-le-mul few (mul-le-mul_right 6 few) in omega (arith, m)) in
-    let y3 : length r.links * (D * (D * 6) + 4) ≤ 256 * (16 * (16 * 6) + 4) = mul-le-mul list.few_links one_link in
+    let x3 = links_size d a oss r.links few in
+    let y3 : length r.links * 1536 ≤ 256 * 1536 = mul-le-mul_right 1536 list.few_links in
     let x4 = aparts_size a pages tables in
     let y4 : length pages * (length tables * 6) ≤ 512 * (256 * 6) = mul-le-mul pages_most (mul-le-mul_right 6 tables_most) in
     let x5 = keeps_size a pages tables r.kept in
@@ -150,7 +151,7 @@ every_most d r oss accepted list within same =
     let w = within.dones in
     omega (arith, s1, s2, s3, s4, x1, y1, x2, y2, z2, w2, v2, x3, y3, x4, y4, x5, y5, n, w)
 
-pub claims_most : (d : ModelData) (r : Requests) (oss : List (List Out)) → IsAccepted d → IsList d r → IsWithin d r → length oss ≡ length r.accesses → forms_size (claim_forms d r oss) ≤ 1803264
+pub claims_most : (d : ModelData) (r : Requests) (oss : List (List Out)) → IsAccepted d → IsList d r → IsWithin d r → length oss ≡ length r.accesses → forms_size (claim_forms d r oss) ≤ 1802240
 claims_most d r oss accepted list within same = let m = (claim_part d r oss).most in let n = every_most d r oss accepted list within same in omega (arith, m, n)
 
 -- ---- the whole
@@ -165,6 +166,15 @@ nodes_most d r within =
     let w = within.terms in
     omega (arith, same, part, w)
 
+-- the words that differ
+unlikes_most : (d : ModelData) (r : Requests) → IsAccepted d → IsList d r → forms_size (unlike_forms (list_access d r) (all_unlikes d r (built d r).terms (built d r).outs)) ≤ 196608
+unlikes_most d r accepted list =
+    let dones : dones_in (steps d) ≡ done_nodes d = dones_total d.nodes in
+    let few : dones_in (steps d) ≤ 16 = (let s = (small_is d accepted).dones in omega (arith, dones, s)) in
+    let x = unlikes_size d r (list_access d r) (built d r).terms (built d r).outs few in
+    let y : length r.links * 768 ≤ 256 * 768 = mul-le-mul_right 768 list.few_links in
+    omega (arith, x, y)
+
 pub table_count : (d : ModelData) (r : Requests) → IsAccepted d → HaveArities d → IsList d r → IsWithin d r → length (table d r).terms ≤ most_terms
 table_count d r a h list within =
     let whole = table_whole d r a h list in
@@ -173,8 +183,9 @@ table_count d r a h list within =
     let z = accesses_most d r a list within in
     let c = claims_most d r (built d r).outs a list within whole.count in
     let n = nodes_most d r within in
+    let u = unlikes_most d r a list in
     let m = whole.most in
-    omega (arith, x, y, z, c, n, m)
+    omega (arith, x, y, z, c, n, u, m)
 
 pub table_problem : (d : ModelData) (r : Requests) → IsAccepted d → HaveArities d → IsList d r → IsWithin d r → IsProblem (table d r)
 table_problem d r a h list within =

@@ -209,16 +209,22 @@ pages_size d form os others h =
     let l : length xs * (length ys * 6) ≤ dones_in (steps d) * (dones_in (steps d) * 6) = mul-le-mul (pages_count (steps d) os) (mul-le-mul_right 6 (pages_count (steps d) others)) in
     omega (arith, s, t, e, f, m, l)
 
-link_size : (d : ModelData) (a : Access) (oss : List (List Out)) (link : Link) → forms_size (every_link d a oss link) ≤ dones_in (steps d) * (dones_in (steps d) * 6) + 4
-link_size d a oss (ShareTable s t) = let h = one_block_size a (side_at d oss s) (side_at d oss t) in omega (arith, h)
-link_size d a oss (ShareCell s t) = omega arith
-link_size d a oss (ApartTable s t) =
+link_size : (d : ModelData) (a : Access) (oss : List (List Out)) (link : Link) → dones_in (steps d) ≤ 16 → forms_size (every_link d a oss link) ≤ 1536
+link_size d a oss (ShareTable s t) few = let h = one_block_size a (side_at d oss s) (side_at d oss t) in omega (arith, h)
+link_size d a oss (ShareCell s t) few = omega arith
+link_size d a oss (ApartTable s t) few =
     let x = side_at d oss s in
     let y = side_at d oss t in
     let h = block_size a (max x.exponent y.exponent) x.out.value y.out.value in
     omega (arith, h)
-link_size d a oss (SharePage j k) = let h = pages_size d (one_page a) (outs_of oss j) (outs_of oss k) (one_page_size a) in omega (arith, h)
-link_size d a oss (ApartPage j k) = let h = pages_size d (apart_form a (λ (o : Out). o.come)) (outs_of oss j) (outs_of oss k) (apart_size a (λ (o : Out). o.come)) in omega (arith, h)
+link_size d a oss (SharePage j k) few =
+    let h = pages_size d (one_page a) (outs_of oss j) (outs_of oss k) (one_page_size a) in
+    let m : dones_in (steps d) * (dones_in (steps d) * 6) ≤ 16 * (16 * 6) = mul-le-mul few (mul-le-mul_right 6 few) in
+    omega (arith, h, m)
+link_size d a oss (ApartPage j k) few =
+    let h = pages_size d (apart_form a (λ (o : Out). o.come)) (outs_of oss j) (outs_of oss k) (apart_size a (λ (o : Out). o.come)) in
+    let m : dones_in (steps d) * (dones_in (steps d) * 6) ≤ 16 * (16 * 6) = mul-le-mul few (mul-le-mul_right 6 few) in
+    omega (arith, h, m)
 
-pub links_size : (d : ModelData) (a : Access) (oss : List (List Out)) (links : List Link) → forms_size (flat_map (every_link d a oss) links) ≤ length links * (dones_in (steps d) * (dones_in (steps d) * 6) + 4)
-links_size d a oss links = size_flat (every_link d a oss) (dones_in (steps d) * (dones_in (steps d) * 6) + 4) (link_size d a oss) links
+pub links_size : (d : ModelData) (a : Access) (oss : List (List Out)) (links : List Link) → dones_in (steps d) ≤ 16 → forms_size (flat_map (every_link d a oss) links) ≤ length links * 1536
+links_size d a oss links few = size_flat (every_link d a oss) 1536 (λ l. link_size d a oss l few) links

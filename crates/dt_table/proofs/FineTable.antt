@@ -1,5 +1,5 @@
 -- The problem of a list of an accepted model is a problem: its terms are well formed, what is required is one bit wide, and a list within the limits has room.
-use Rattle.std.proofs.Common.{◌≡◌, ℕ, ◌+◌, ◌*◌, ◌<◌, ◌≤◌, Bool, true, false, cond, eqb, List, [], ◌∷◌, ◌++◌, length, Some, sym, ap, subst, arith}
+use Rattle.std.proofs.Common.{◌≡◌, ℕ, ◌+◌, ◌*◌, ◌<◌, ◌≤◌, Bool, true, false, cond, eqb, List, [], ◌∷◌, ◌++◌, length, Some, refl, sym, ap, subst, arith}
 use Rattle.std.specs.List.{AllByRecursion}
 use Rattle.std.proofs.lemmas.List.Elements.{recursion_from_All}
 use Rattle.dt_lemmas.proofs.Lists.{each_has}
@@ -18,13 +18,16 @@ use Rattle.dt_forms.proofs.Fine.{forms_size, size_append, fine_append}
 use Rattle.dt_table.specs.declared.out.Out.{Out}
 use Rattle.dt_forms.specs.Folding.{fold}
 use Rattle.dt_forms.proofs.Folding.{fold_can}
-use Rattle.dt_table.specs.Table.{align_of, access_of, with_claims, contexts_built, start, built, claim_forms, extra_forms, table}
+use Rattle.dt_table.specs.Extras.{all_extras}
+use Rattle.dt_table.specs.Unlike.{all_unlikes, unlike_forms}
+use Rattle.dt_table.specs.Table.{align_of, access_of, list_access, with_claims, contexts_built, start, built, claim_forms, extra_forms, table}
 use Rattle.dt_table.proofs.Accepted.{ready_from}
 use Rattle.dt_table.proofs.Composed.{contexts_outs}
 use Rattle.dt_table.proofs.Ranges.{within_all}
 use Rattle.dt_table.proofs.FineChoices.{start_chosen, start_terms}
 use Rattle.dt_table.proofs.FineWalks.{IsPlain}
-use Rattle.dt_table.proofs.FineClaims.{AreOutsSized, names_wide}
+use Rattle.dt_table.proofs.FineClaims.{AreBits, AreOutsSized, names_wide}
+use Rattle.dt_table.proofs.FineUnlike.{unlikes_fine}
 use Rattle.dt_table.proofs.FineLists.{rules_size, IsModel, IsAsked, IsBuilt, access_size, contexts_onward, accesses_onward, onward_by, claims_fine, extras_fine, extras_size, outs_counted}
 
 -- ---- what an accepted model gives
@@ -90,13 +93,14 @@ base_size d r = length r.contexts * rules_size d.legal_context + length r.access
 
 -- how many terms the claims take at most, with the further forms
 abbrev pub claims_size : ModelData → Requests → ℕ
-claims_size d r = forms_size (claim_forms d r (built d r).outs) + length r.accesses * length (steps d)
+claims_size d r = forms_size (claim_forms d r (built d r).outs) + length r.accesses * length (steps d) + forms_size (unlike_forms (list_access d r) (all_unlikes d r (built d r).terms (built d r).outs))
 
 pub record IsWhole (d : ModelData) (r : Requests) : Type 0 where
   pub terms_are : AreTerms (table d r).terms
   pub tests : AllByRecursion (IsTest (table d r).terms) (table d r).required
   pub most : length (table d r).terms ≤ length (start d r).terms + base_size d r + claims_size d r
   pub count : length (built d r).outs ≡ length r.accesses
+  pub built_are : AreTerms (built d r).terms
 
 pub table_whole : (d : ModelData) (r : Requests) → IsAccepted d → HaveArities d → IsList d r → IsWhole d r
 unfolding table
@@ -112,11 +116,17 @@ table_whole d r a h list =
     let b = built d r in
     let zero_outs : length c.outs ≡ 0 = ap length (sym none) in
     let n : length b.outs ≡ length r.accesses = (let e = y.count in omega (arith, e, zero_outs)) in
-    let claims = claim_forms d r b.outs ++ extra_forms d r b.outs in
-    let f = fine_append b.terms (claim_forms d r b.outs) (extra_forms d r b.outs) (claims_fine d r b.terms b.outs model asked y.onward.built_is.chosen y.outs n) (extras_fine d r b.terms 0 b.outs y.outs) in
+    let claims = claim_forms d r b.outs ++ extra_forms d r b.terms b.outs in
+    let a = list_access d r in
+    let words = unlike_forms a (all_unlikes d r b.terms b.outs) in
+    let chosen = y.onward.built_is.chosen in
+    let bits : AreBits b.terms a = record { zero_is = chosen.zero_is; one_is = chosen.one_is; wide = model.wide.address } in
+    let linked = subst (λ (m : ℕ). AllByRecursion (IsLink d m) r.links) (sym n) asked.links in
+    let further = fine_append b.terms (all_extras d r 0 b.outs) words (extras_fine d r b.terms 0 b.outs y.outs) (unlikes_fine d r a b.terms b.outs refl y.onward.built_is.terms_are bits y.outs linked) in
+    let f = fine_append b.terms (claim_forms d r b.outs) (extra_forms d r b.terms b.outs) (claims_fine d r b.terms b.outs model asked y.onward.built_is.chosen y.outs n) further in
     let nodes = length (steps d) in
-    let more : forms_size (extra_forms d r b.outs) ≤ length r.accesses * nodes = subst (λ (k : ℕ). forms_size (extra_forms d r b.outs) ≤ k * nodes) n (extras_size d r 0 b.outs nodes (outs_counted d b.terms b.outs y.outs)) in
-    let size : forms_size claims ≤ claims_size d r = (let e = size_append (claim_forms d r b.outs) (extra_forms d r b.outs) in omega (arith, e, more)) in
+    let more : forms_size (all_extras d r 0 b.outs) ≤ length r.accesses * nodes = subst (λ (k : ℕ). forms_size (all_extras d r 0 b.outs) ≤ k * nodes) n (extras_size d r 0 b.outs nodes (outs_counted d b.terms b.outs y.outs)) in
+    let size : forms_size claims ≤ claims_size d r = (let e = size_append (claim_forms d r b.outs) (extra_forms d r b.terms b.outs) in let k = size_append (all_extras d r 0 b.outs) words in omega (arith, e, k, more)) in
     let z = onward_by fold fold_can d r b claims (claims_size d r) y.onward.built_is f size in
     let g = grows_on s.terms b.terms (with_claims b claims).terms (base_size d r) (claims_size d r) (grows_on s.terms c.terms b.terms (length r.contexts * rules_size d.legal_context) (length r.accesses * access_size d) x.grows y.onward.grows) z.grows in
     record {
@@ -124,7 +134,12 @@ table_whole d r a h list =
       tests = z.built_is.tests;
       most = let m = g.most in omega (arith, m);
       count = n;
+      built_are = y.onward.built_is.terms_are;
     }
+
+-- what stands before the claims
+pub built_terms : (d : ModelData) (r : Requests) → IsAccepted d → HaveArities d → IsList d r → AreTerms (built d r).terms
+built_terms d r a h list = (table_whole d r a h list).built_are
 
 pub table_terms : (d : ModelData) (r : Requests) → IsAccepted d → HaveArities d → IsList d r → AreTerms (table d r).terms
 table_terms d r a h list = (table_whole d r a h list).terms_are

@@ -18,6 +18,7 @@ pub mod FineLists
 pub mod FineSizes
 pub mod FineTable
 pub mod FineTrees
+pub mod FineUnlike
 pub mod FineWalks
 pub mod Flagged
 pub mod Kept
@@ -47,6 +48,8 @@ pub mod TableMemory
 pub mod Theorem
 pub mod Told
 pub mod Trees
+pub mod Unlike
+pub mod Uppers
 pub mod Visits
 pub mod Walked
 pub mod Whole

@@ -116,7 +116,7 @@ one_page_value v a x y fit h k = by_size (eqb x.exponent y.exponent) refl
 
 -- ---- runs
 
-abbrev runs : Valuation → ModelData → List (List Out) → List RunData
+abbrev pub runs : Valuation → ModelData → List (List Out) → List RunData
 runs v d oss = map (λ os. told v (steps d) os 0) oss
 
 run_at : (v : Valuation) (d : ModelData) (oss : List (List Out)) (k : ℕ) → k < length oss → slice_get (runs v d oss) k ≡ Some (told v (steps d) (outs_of oss k) 0)
@@ -141,11 +141,11 @@ reads_address (fault c) h = h
 reads_address (done e p) h = refl
 
 -- what the terms of a side tell
-record IsSideTold (v : Valuation) (d : ModelData) (oss : List (List Out)) (s : Side) : Type 0 where
-  made : read_in (runs v d oss) s ≡ cond (is_one (v (side_at d oss s).out.by_then)) (Some (read_of v s.node (side_at d oss s).out)) None
-  wide : (v (side_at d oss s).out.value).width.0 ≡ d.address
+pub record IsSideTold (v : Valuation) (d : ModelData) (oss : List (List Out)) (s : Side) : Type 0 where
+  pub made : read_in (runs v d oss) s ≡ cond (is_one (v (side_at d oss s).out.by_then)) (Some (read_of v s.node (side_at d oss s).out)) None
+  pub wide : (v (side_at d oss s).out.value).width.0 ≡ d.address
 
-side_told : (v : Valuation) (d : ModelData) (oss : List (List Out)) (s : Side) → AllNodes v d oss → IsSide d (length oss) s → IsSideTold v d oss s
+pub side_told : (v : Valuation) (d : ModelData) (oss : List (List Out)) (s : Side) → AllNodes v d oss → IsSide d (length oss) s → IsSideTold v d oss s
 side_told v d oss s nodes h =
     let os = outs_of oss s.access in
     let own = nodes_at v d oss s.access nodes h.0 in

@@ -22,10 +22,14 @@ use Rattle.dt_ways.specs.Ends.{is_end, ends_done, ends_fault, ends_page}
 use Rattle.dt_table.specs.Apart.{Sized, same_block, apart_form, pages_at}
 use Rattle.dt_table.specs.Demands.{result_form, quantity_forms, is_masked_form, is_within_form, quantity_width, demand_forms}
 use Rattle.dt_table.specs.Links.{outs_of, side_at, one_block, one_page}
+use Rattle.dt_terms.specs.declared.term.Term.{Term}
+use Rattle.dt_table.specs.Extras.{all_extras}
+use Rattle.dt_table.specs.Unlike.{all_unlikes, unlike_forms}
 use Rattle.dt_table.specs.Table.{access_of, list_access, wish_forms, claim_forms, extra_forms}
 use Rattle.dt_table.proofs.Every.{every_pair, every_apart, every_page, every_link, every_block, every_keep, every_list, every_claim, pages_in, tables_in, reads_among, claim_part}
 use Rattle.dt_table.proofs.Kept.{kept_have}
 use Rattle.dt_table.proofs.Dead.{dead_have}
+use Rattle.dt_table.proofs.Unlike.{unlike_have}
 
 -- ---- lists of forms
 
@@ -137,5 +141,8 @@ every_form d r oss =
     AllByRecursion-append HasForm (every_block d r oss) (every_keep d r oss) (aparts_form a (pages_in d oss) (tables_in d oss)) (kept_have a (pages_in d oss) (tables_in d oss) r.kept)
     )))
 
-pub claims_form : (d : ModelData) (r : Requests) (oss : List (List Out)) → HaveForms (claim_forms d r oss ++ extra_forms d r oss)
-claims_form d r oss = AllByRecursion-append HasForm (claim_forms d r oss) (extra_forms d r oss) ((claim_part d r oss).all HasForm (every_form d r oss)) (dead_have d r 0 oss)
+pub claims_form : (d : ModelData) (r : Requests) (terms : List Term) (oss : List (List Out)) → HaveForms (claim_forms d r oss ++ extra_forms d r terms oss)
+claims_form d r terms oss =
+    let us = all_unlikes d r terms oss in
+    AllByRecursion-append HasForm (claim_forms d r oss) (extra_forms d r terms oss) ((claim_part d r oss).all HasForm (every_form d r oss))
+    (AllByRecursion-append HasForm (all_extras d r 0 oss) (unlike_forms (list_access d r) us) (dead_have d r 0 oss) (unlike_have (list_access d r) us))

@@ -161,7 +161,7 @@ solving_from v d r ready list h ones =
     let m = (image_told v d r).memory in
     let fits : Fits d r m = record { bytes = refl; lo = refl; hi = refl } in
     let g = given_from v d r m ready list h fits in
-    let solved = table_solved v d r ready (claims_form d r oss) h ones in
+    let solved = table_solved v d r ready (claims_form d r (built d r).terms oss) h ones in
     let reads = reads_among d oss in
     let asked = asked_from v d r g (AllByRecursion-split (λ (f : Form). is_one (form_value v f) ≡ true) (pair_forms (all_reads d r 0 oss)) (list_forms d r oss) solved.claims).1 in
     let within = within_all d r.kept (recursion_from_All (IsKept d) r.kept list.kept) in

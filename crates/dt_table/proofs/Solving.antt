@@ -20,10 +20,13 @@ use Rattle.dt_forms.specs.Meaning.{Valuation, AreValues, is_one}
 use Rattle.dt_forms.specs.Forms.{Form, form_value}
 use Rattle.dt_table.specs.declared.out.Out.{Out}
 use Rattle.dt_table.specs.Told.{told}
-use Rattle.dt_table.proofs.Every.{every_pair, every_list, reads_among, claim_part}
+use Rattle.dt_table.proofs.Every.{every_pair, every_link, every_block, every_keep, every_list, reads_among, claim_part}
 use Rattle.dt_table.specs.Pairs.{pair_forms}
 use Rattle.dt_table.specs.Spots.{all_reads}
-use Rattle.dt_table.specs.Table.{regs_at, inputs_at, words_at, access_of, first_state, list_forms, built, table}
+use Rattle.dt_terms.specs.Terms.{AreTerms}
+use Rattle.dt_table.specs.Extras.{all_extras}
+use Rattle.dt_table.specs.Unlike.{all_unlikes, unlike_forms}
+use Rattle.dt_table.specs.Table.{regs_at, inputs_at, words_at, access_of, first_state, list_access, wish_forms, list_forms, built, table}
 use Rattle.dt_table.specs.Images.{contexts_told, accesses_told, reads_told}
 use Rattle.dt_table.specs.Numbers.{word_in, words_for, access_numbers, numbers_of}
 use Rattle.dt_forms.specs.Claims.{AreOnes}
@@ -32,7 +35,7 @@ use Rattle.dt_table.proofs.Pairs.{all_made, agree_hold}
 use Rattle.dt_table.proofs.Words.{AllAgree}
 use Rattle.dt_table.proofs.Nodes.{words_of}
 use Rattle.dt_table.proofs.Ready.{IsReady, AreSet, Fits}
-use Rattle.dt_table.proofs.Composed.{IsPlaced, ArePlaced, solved_table}
+use Rattle.dt_table.proofs.Composed.{IsPlaced, ArePlaced, table_built, solved_table}
 use Rattle.dt_table.proofs.Told.{AtAccess, regs_of, inputs_of, placed_said, told_all, all_told, agree_plain}
 use Rattle.dt_table.proofs.Claimed.{seen, access_told, registers_told, HaveContexts, AllTold, claimed_contexts, claimed_accesses}
 use Rattle.dt_table.proofs.ListForms.{claims_form}
@@ -40,6 +43,8 @@ use Rattle.dt_table.proofs.Satisfying.{given_from, list_tells, asked_from}
 use Rattle.dt_table.proofs.Rising.{walk_rising, rising_remembers, remembers_agree, rising_said}
 use Rattle.dt_table.proofs.Numbers.{HaveBits, bits_split, contexts_back, contexts_total, HaveWords, accesses_back, words_back}
 use Rattle.dt_table.proofs.Dead.{extras_hold}
+use Rattle.dt_table.proofs.Pages.{fit_from}
+use Rattle.dt_table.proofs.Unlike.{unlikes_hold}
 
 one_said : (v : Valuation) (d : ModelData) (r : Requests) (k : ℕ) (a : AccessWish) (m : Memory) (os : List Out) → AtAccess v d r k a m → IsPlaced v d r k a os
     → HaveBits v (words_at d r k) (words_for (steps d) (run_of d (seen v d r m) (access_told v d r k a)).reads 0)
@@ -74,9 +79,9 @@ told_remember v d r m (a ∷ more) (os ∷ oss) k h =
     AllByRecursion-append _ (told v (steps d) os 0).reads (reads_told v (steps d) oss) (subst (λ (q : RunData). Remembers m q.reads) h.0 g) (told_remember v d r m more oss (k + 1) h.1)
 
 -- an image that the values tell, over its memory
-seen_solved : (v : Valuation) (d : ModelData) (r : Requests) (m : Memory) → IsReady d → IsList d r → AreValues v (table d r).terms → Fits d r m
+seen_solved : (v : Valuation) (d : ModelData) (r : Requests) (m : Memory) → IsReady d → IsList d r → AreTerms (built d r).terms → AreValues v (table d r).terms → Fits d r m
     → HaveWords v d r (seen v d r m) 0 (accesses_told v d r 0 r.accesses) → AllByRecursion IsTrue (claims d r (seen v d r m)) → AreOnes v (table d r).required
-seen_solved v d r m ready list h fits words holds =
+seen_solved v d r m ready list formed h fits words holds =
     let oss = (built d r).outs in
     let g = given_from v d r m ready list h fits in
     let i = seen v d r m in
@@ -88,17 +93,25 @@ seen_solved v d r m ready list h fits words holds =
     let reads = reads_among d oss in
     let agree : AllAgree (all_made v reads) = subst AllAgree (told_all v d oss g.nodes) (agree_plain (reads_told v (steps d) oss) (remembers_agree m (reads_told v (steps d) oss) (told_remember v d r m r.accesses oss 0 all))) in
     let asked = AllByRecursion-append IsTrue (demand_claims d r i) (link_claims d r i ++ apart_claim d i ∷ kept_claims d r i) p2.1 (AllByRecursion-append IsTrue (link_claims d r i) (apart_claim d i ∷ kept_claims d r i) p3.1 p4.1) in
-    let every = AllByRecursion-append (λ (f : Form). is_one (form_value v f) ≡ true) (every_pair reads) (every_list d r oss) (agree_hold v reads (all_told v d oss g.nodes) agree) ((list_tells v d r m list g all).held asked) in
+    let listed = (list_tells v d r m list g all).held asked in
+    let every = AllByRecursion-append (λ (f : Form). is_one (form_value v f) ≡ true) (every_pair reads) (every_list d r oss) (agree_hold v reads (all_told v d oss g.nodes) agree) listed in
     let claimed = (claim_part d r oss).all (λ (f : Form). is_one (form_value v f) ≡ true) every in
     let own = (AllByRecursion-split (λ (f : Form). is_one (form_value v f) ≡ true) (pair_forms (all_reads d r 0 oss)) (list_forms d r oss) claimed).1 in
-    solved_table v d r ready (claims_form d r oss) h (record {
+    let a = list_access d r in
+    let links = flat_map (every_link d a oss) r.links in
+    let behind = AllByRecursion-split (λ (f : Form). is_one (form_value v f) ≡ true) (wish_forms d r 0 r.accesses oss) (links ++ (every_block d r oss ++ every_keep d r oss)) listed in
+    let linked = AllByRecursion-split (λ (f : Form). is_one (form_value v f) ≡ true) links (every_block d r oss ++ every_keep d r oss) behind.1 in
+    let terms = (built d r).terms in
+    let further = AllByRecursion-append (λ (f : Form). is_one (form_value v f) ≡ true) (all_extras d r 0 oss) (unlike_forms a (all_unlikes d r terms oss)) (extras_hold v d r oss (asked_from v d r g own))
+    (unlikes_hold v d r terms oss (record { terms_are = formed; values_are = table_built v d r h; fit = fit_from v d r g.set; nodes = g.nodes }) g.links linked.0) in
+    solved_table v d r ready (claims_form d r terms oss) h (record {
       contexts = claimed_contexts v d r (length r.contexts) 0 ready g.set (omega arith) p1.0;
       accesses = claimed_accesses v d r m r.accesses 0 ready g.set g.contexts (omega arith) p1.1;
       claims = claimed;
-    }) (extras_hold v d r oss (asked_from v d r g own))
+    }) further
 
-pub image_solved : (v : Valuation) (d : ModelData) (r : Requests) (i : Image) → IsReady d → IsList d r → AreValues v (table d r).terms → HaveBits v 0 (numbers_of d i) → Satisfies d r i → AreOnes v (table d r).required
-image_solved v d r i ready list h bits sat =
+pub image_solved : (v : Valuation) (d : ModelData) (r : Requests) (i : Image) → IsReady d → IsList d r → AreTerms (built d r).terms → AreValues v (table d r).terms → HaveBits v 0 (numbers_of d i) → Satisfies d r i → AreOnes v (table d r).required
+image_solved v d r i ready list formed h bits sat =
     let m = i.memory in
     let p = bits_split v (flat_map (λ regs. regs) i.contexts) (flat_map (access_numbers d i) i.accesses) 0 bits in
     let z0 : 0 ≡ regs_at d 0 = omega arith in
@@ -113,5 +126,5 @@ image_solved v d r i ready list h bits sat =
     ap (λ (cs : List (List ℕ)). record { memory = m; contexts = cs; accesses = accesses_told v d r 0 r.accesses }) ce
     ∙ ap (λ (l : List ImageAccess). record { memory = m; contexts = i.contexts; accesses = l }) ae.0 in
     let fits : Fits d r m = record { bytes = (let x = sat.image.word in let y = ready.word in omega (arith, x, y)); lo = sat.matches.lo; hi = sat.matches.hi } in
-    seen_solved v d r m ready list h fits (subst (λ (j : Image). HaveWords v d r j 0 j.accesses) (sym e) ae.1)
+    seen_solved v d r m ready list formed h fits (subst (λ (j : Image). HaveWords v d r j 0 j.accesses) (sym e) ae.1)
     (subst (λ (j : Image). AllByRecursion IsTrue (claims d r j)) (sym e) (recursion_from_All IsTrue (claims d r i) sat.claims))

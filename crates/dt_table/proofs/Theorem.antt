@@ -14,7 +14,7 @@ use Rattle.dt_terms.proofs.Valued.{value_is}
 use Rattle.dt_image.specs.declared.image.Image.{Image}
 use Rattle.dt_satisfy.specs.Satisfies.{Satisfies}
 use Rattle.dt_forms.specs.Meaning.{Valuation}
-use Rattle.dt_table.specs.Table.{table, choices}
+use Rattle.dt_table.specs.Table.{built, table, choices}
 use Rattle.dt_table.specs.Images.{image_told}
 use Rattle.dt_table.specs.Numbers.{numbers_of}
 use Rattle.dt_forms.specs.Claims.{AreOnes}
@@ -78,11 +78,11 @@ first_bits xs more numbers h e =
     ∙ ap (λ (j : ℕ). get_or numbers j 0) (choice_place xs more t h (omega (arith, l, e))))
 
 -- from an image to an assignment
-pub image_solves : (d : ModelData) (r : Requests) (i : Image) → IsReady d → IsList d r → AreTerms (table d r).terms → IsAssignment (table d r).terms (numbers_of d i) → length (numbers_of d i) ≡ length (choices d r) → Satisfies d r i
+pub image_solves : (d : ModelData) (r : Requests) (i : Image) → IsReady d → IsList d r → AreTerms (built d r).terms → AreTerms (table d r).terms → IsAssignment (table d r).terms (numbers_of d i) → length (numbers_of d i) ≡ length (choices d r) → Satisfies d r i
     → solves (table d r) (numbers_of d i) ≡ true
-image_solves d r i ready list h a n sat =
+image_solves d r i ready list t h a n sat =
     let terms = (table d r).terms in
     let numbers = numbers_of d i in
     let x = table_extends d r in
     let bits : HaveBits (values terms numbers) 0 numbers = subst (λ (l : List Term). HaveBits (values l numbers) 0 numbers) (sym x.1) (first_bits (choices d r) x.0 numbers (are_choices d r) n) in
-    of_ones terms numbers (table d r).required (image_solved (values terms numbers) d r i ready list (assigned_values terms numbers h a) bits sat)
+    of_ones terms numbers (table d r).required (image_solved (values terms numbers) d r i ready list t (assigned_values terms numbers h a) bits sat)

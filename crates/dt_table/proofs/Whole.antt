@@ -28,7 +28,7 @@ use Rattle.dt_table.proofs.Assigned.{FitTerms, terms_join, terms_length, context
 use Rattle.dt_table.proofs.Accepted.{ready_from}
 use Rattle.dt_table.proofs.Theorem.{table_satisfies, image_solves, choice_place, ones_of}
 use Rattle.dt_table.proofs.TableMemory.{told_memory}
-use Rattle.dt_table.proofs.FineTable.{table_terms}
+use Rattle.dt_table.proofs.FineTable.{built_terms, table_terms}
 use Rattle.dt_table.proofs.FineCount.{table_problem}
 
 run_remembers : (d : ModelData) (i : Image) (a : ImageAccess) → Remembers i.memory (run_of d i a).reads
@@ -60,7 +60,7 @@ pub from_image : (d : ModelData) (r : Requests) (i : Image) → IsAccepted d →
     → IsAssignment (table d r).terms (numbers_of d i) × (solves (table d r) (numbers_of d i) ≡ true)
 from_image d r i a h list f sat =
     let assigned = image_assigned d r i f sat in
-    (assigned, image_solves d r i (ready_from d a h) list (table_terms d r a h list) assigned (terms_length (choices d r) (numbers_of d i) (numbers_fit d r i f sat)) sat)
+    (assigned, image_solves d r i (ready_from d a h) list (built_terms d r a h list) (table_terms d r a h list) assigned (terms_length (choices d r) (numbers_of d i) (numbers_fit d r i f sat)) sat)
 
 -- and its memory is a table memory
 pub to_memory : (d : ModelData) (r : Requests) (numbers : List ℕ) → IsAccepted d → HaveArities d → IsList d r → IsAssignment (table d r).terms numbers → solves (table d r) numbers ≡ true

@@ -15,4 +15,5 @@ pub mod Sizes
 pub mod Spots
 pub mod Table
 pub mod Told
+pub mod Unlike
 pub mod Words

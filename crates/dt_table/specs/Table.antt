@@ -27,6 +27,7 @@ use Rattle.dt_table.specs.Pairs.{pair_forms, apart_forms}
 use Rattle.dt_table.specs.Spots.{all_reads, all_pages}
 use Rattle.dt_table.specs.Kept.{kept_forms}
 use Rattle.dt_table.specs.Extras.{all_extras}
+use Rattle.dt_table.specs.Unlike.{all_unlikes, unlike_forms}
 
 -- ---- choices: for each context its registers, and then for each access its inputs and a word for each read node
 
@@ -144,9 +145,9 @@ list_forms d r outs =
 abbrev pub claim_forms : ModelData → Requests → List (List Out) → List Form
 claim_forms d r outs = pair_forms (all_reads d r 0 outs) ++ list_forms d r outs
 
--- further forms that hold of each image that satisfies
-abbrev pub extra_forms : ModelData → Requests → List (List Out) → List Form
-extra_forms d r outs = all_extras d r 0 outs
+-- further forms that hold of each image that satisfies; what words blocks are bits of is seen from the terms
+abbrev pub extra_forms : ModelData → Requests → List Term → List (List Out) → List Form
+extra_forms d r terms outs = all_extras d r 0 outs ++ unlike_forms (list_access d r) (all_unlikes d r terms outs)
 
 abbrev pub bit_node : ℕ → Term
 bit_node n = node_of [] (Const (record { width = width 1; bits = n })) 0 0 0
@@ -162,5 +163,5 @@ built d r = accesses_built d r (contexts_built d (start d r) (length r.contexts)
 unfoldable pub table : ModelData → Requests → ProblemData
 table d r =
     let b = built d r in
-    let c = with_claims b (claim_forms d r b.outs ++ extra_forms d r b.outs) in
+    let c = with_claims b (claim_forms d r b.outs ++ extra_forms d r b.terms b.outs) in
     record { terms = c.terms; required = c.required }

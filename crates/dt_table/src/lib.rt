@@ -7,9 +7,11 @@
 //! builds the problem stands in the crates above.
 #![tactic(auto)]
 
+mod differing;
 mod faithful;
 mod out;
 
+pub use differing::{UnlikeWords, Upper};
 pub use faithful::{
     images_are_solutions, lists_are_problems, solutions_are_images, solutions_are_memories,
 };
