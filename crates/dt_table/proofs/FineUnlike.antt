@@ -1,5 +1,5 @@
 -- The forms of words that differ can be put behind the terms, each of one bit, and how many terms they take.
-use Rattle.std.proofs.Common.{◌≡◌, ℕ, ◌+◌, ◌*◌, ◌≤◌, Bool, true, false, cond, not, ◌&&◌, eqb, List, [], ◌∷◌, length, map, Option, Some, None, refl, sym, ap, ◌∙◌, subst, arith}
+use Rattle.std.proofs.Common.{◌≡◌, ℕ, ◌*◌, ◌≤◌, Bool, true, false, cond, not, ◌&&◌, eqb, List, [], ◌∷◌, length, Option, Some, None, refl, sym, ap, ◌∙◌, subst, arith}
 use Rattle.std.specs.Prelude.{max}
 use Rattle.std.specs.List.{flat_map, AllByRecursion}
 use Rattle.std.proofs.Math.Nat.{mul-le-mul, mul-le-mul_right}
@@ -27,7 +27,7 @@ use Rattle.dt_table.specs.Spots.{Spot}
 use Rattle.dt_ways.specs.Ways.{access_ways}
 use Rattle.dt_table.specs.Unlike.{upper_at, same_bits, are_two, unlike_of, unlikes, page_unlikes, link_unlikes, all_unlikes, unlike_form, unlike_forms}
 use Rattle.dt_table.proofs.Every.{of_spot, pages_spotted}
-use Rattle.dt_table.proofs.FineClaims.{AreBits, AreOutsSized, AreNodesSized, IsNodeSized, pages_sized, outs_sized_at, side_sized}
+use Rattle.dt_table.proofs.FineClaims.{AreBits, AreOutsSized, AreNodesSized, pages_sized, outs_sized_at, side_sized}
 use Rattle.dt_table.proofs.FineSizes.{dones_in, pages_count}
 use Rattle.dt_table.proofs.Unlike.{PairsHave, unlikes_have, results_have, links_have, forms_have}
 use Rattle.dt_table.proofs.Uppers.{upper_is}

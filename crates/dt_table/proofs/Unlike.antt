@@ -1,10 +1,10 @@
 -- Words differ in each image that satisfies, where the blocks that are their same bits are apart.
-use Rattle.std.proofs.Common.{◌≡◌, ℕ, ◌+◌, ◌/◌, ◌<◌, ◌^◌, Bool, true, false, cond, not, ◌&&◌, ◌||◌, eqb, List, [], ◌∷◌, ◌++◌, length, map, Option, Some, None, refl, sym, ap, ◌∙◌, subst, arith}
+use Rattle.std.proofs.Common.{◌≡◌, ℕ, ◌+◌, ◌/◌, ◌<◌, ◌^◌, Bool, true, false, cond, not, ◌&&◌, ◌||◌, eqb, List, [], ◌∷◌, ◌++◌, length, map, Option, Some, None, refl, sym, ap, ◌∙◌, subst}
 use Rattle.std.specs.Prelude.{max}
 use Rattle.std.specs.List.{flat_map, AllByRecursion}
 use Rattle.std.proofs.lemmas.Bool.{eqb-true, eq-eqb, false≢true}
 use Rattle.dt_lemmas.proofs.Lists.{AllByRecursion-append, AllByRecursion-split}
-use Rattle.dt_model.specs.ModelData.{Tree, ModelData, ActData, done}
+use Rattle.dt_model.specs.ModelData.{ModelData, ActData}
 use Rattle.dt_model.specs.Faults.{steps}
 use Rattle.dt_request.specs.declared.list.Link.{Link}
 use Rattle.dt_request.specs.declared.list.Link.TheVariants.{ShareTable, ShareCell, SharePage, ApartTable, ApartPage}
@@ -13,7 +13,7 @@ use Rattle.dt_request.specs.Lists.{IsLink}
 use Rattle.dt_terms.specs.declared.term.Term.{Term}
 use Rattle.dt_terms.specs.Terms.{AreTerms}
 use Rattle.dt_forms.specs.Meaning.{Valuation, AreValues, flag, is_one}
-use Rattle.dt_forms.specs.Forms.{Form, HasForm, HaveForms, term, form2, form_value, not_of, both_of}
+use Rattle.dt_forms.specs.Forms.{Form, HaveForms, term, form2, form_value, not_of, both_of}
 use Rattle.dt_bits.specs.declared.op.Op.TheVariants.{Or}
 use Rattle.dt_forms.specs.Claims.{Hold}
 use Rattle.dt_forms.proofs.FormValues.{not_form, both_form, or_form}
@@ -31,9 +31,9 @@ use Rattle.dt_table.specs.Spots.{Spot}
 use Rattle.dt_table.specs.Table.{list_access}
 use Rattle.dt_table.specs.Unlike.{upper_at, same_bits, are_two, unlike_of, unlikes, page_unlikes, link_unlikes, all_unlikes, unlike_form, unlike_forms}
 use Rattle.dt_table.proofs.Blocks.{same_block_value}
-use Rattle.dt_table.proofs.Every.{every_page, every_link, of_spot, pages_spotted}
+use Rattle.dt_table.proofs.Every.{every_link, of_spot, pages_spotted}
 use Rattle.dt_table.proofs.Flagged.{AllOuts, IsFlagged, is_flag}
-use Rattle.dt_table.proofs.Linked.{IsSideTold, side_told, nodes_at}
+use Rattle.dt_table.proofs.Linked.{side_told, nodes_at}
 use Rattle.dt_table.proofs.NodeKinds.{pages_have, each_out}
 use Rattle.dt_table.proofs.Pages.{AreFit}
 use Rattle.dt_table.proofs.Results.{come_of}

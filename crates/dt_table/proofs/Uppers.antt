@@ -1,5 +1,5 @@
 -- What terms take their upper bits from: two blocks that are the same bits of two words are one where the words are equal.
-use Rattle.std.proofs.Common.{◌≡◌, ℕ, ◌+◌, ◌-◌, ◌*◌, ◌/◌, ◌%◌, ◌<◌, ◌≤◌, ◌^◌, Bool, true, ◌&&◌, eqb, leb, ltb, List, length, take, Option, Some, None, ◌⊎◌, inl, inr, refl, sym, ap, ◌∙◌, subst, arith}
+use Rattle.std.proofs.Common.{◌≡◌, ℕ, ◌+◌, ◌-◌, ◌*◌, ◌/◌, ◌%◌, ◌<◌, ◌≤◌, ◌^◌, true, ◌&&◌, eqb, leb, ltb, List, length, take, Some, ◌⊎◌, inl, inr, refl, sym, ap, ◌∙◌, subst, arith}
 use Rattle.std.proofs.Math.Nat.{div-one}
 use Rattle.std.proofs.lemmas.Nat.{shr-shr, field_of, div-mul-add}
 use Rattle.std.proofs.lemmas.Bool.{and_parts, leb-true, eqb-true, cases_lt}
@@ -9,7 +9,6 @@ use Rattle.dt_bits.specs.Bits.{width}
 use Rattle.dt_bits.specs.declared.op.Op.TheVariants.{Const, Not, And, Or, Xor, Add, Sub, Slice, Concat, SignExt, Shl, Shr, Eq, Ltu, Ite}
 use Rattle.dt_bits.specs.declared.value.Bv.{Bv}
 use Rattle.dt_bits.specs.declared.value.Width.{Width}
-use Rattle.dt_bits.specs.Ops.{fits_at}
 use Rattle.dt_terms.specs.declared.term.Term.{Term}
 use Rattle.dt_terms.specs.declared.term.Term.TheVariants.{Choice, Node}
 use Rattle.dt_terms.specs.Terms.{AreTerms, IsNode, IsFitting, term_at, bits_at}
