@@ -101,7 +101,7 @@ impl<D: Domain> Cells<D> {
     {
         let terms = problem.terms.as_slice();
         let narrowed = narrowed(terms, &self.cells, &self.unused, step);
-        put(&mut self.cells[target(terms, step) as usize], narrowed)
+        put(&mut self.cells[target(terms, step) as usize], &narrowed)
     }
 
     /// Takes a step as `apply` does, and keeps in the trail what the target's cell was, unless the
@@ -125,7 +125,7 @@ impl<D: Domain> Cells<D> {
         let narrowed = narrowed(terms, &self.cells, &self.unused, step);
         let at = target(terms, step);
         let cell = &mut self.cells[at as usize];
-        put_kept(cell, at, narrowed, &mut trail.changes)
+        put_kept(cell, at, &narrowed, &mut trail.changes)
     }
 
     /// Sets a bit of the term at a position: its cell becomes the one that holds what it held with
@@ -169,7 +169,7 @@ impl<D: Domain> Cells<D> {
         let _ = &problem.terms;
         let cell = &mut self.cells[term as usize];
         let narrowed = Some(cell.with_bit(bit, value));
-        put_kept(cell, term, narrowed, &mut trail.changes)
+        put_kept(cell, term, &narrowed, &mut trail.changes)
     }
 
     /// The cells become what they were when the trail had this many pairs, and the trail keeps

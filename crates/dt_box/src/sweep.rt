@@ -39,7 +39,7 @@ pub(crate) fn tells<D: Domain>(terms: &[Term], cells: &[D], unused: &D, step: St
     ensures { result ≡ tells D.ops terms.now step cells.now }
 {
     let narrowed = narrowed(terms, cells, unused, step);
-    has_news(&cells[target(terms, step) as usize], narrowed)
+    has_news(&cells[target(terms, step) as usize], &narrowed)
 }
 
 // The first step backward from a node, with this many operands, that tells something new.

@@ -12,7 +12,9 @@
 //! Only tested: that it runs, and the cells of traces. The figures are the machine's.
 #![tactic(auto)]
 
-ghost use Rattle.std.specs.Prelude.{All};
+ghost use Rattle.std.specs.Prelude.{All, IfOk};
+ghost use Rattle.dt_pair.specs.Ops.{pair_ops};
+ghost use Rattle.dt_box.specs.Cells.{AreCells};
 ghost use Rattle.dt_box_bench.specs.Moves.{IsMove};
 
 mod moves;
@@ -52,38 +54,90 @@ fn tell(
     Ok(())
 }
 
-/// Does all the work on a problem of this many terms.
-fn measure(rt: &HostRuntime, shown: bool, count: u32) -> Result<(), Stop> {
+/// Builds the problem.
+fn build(rt: &HostRuntime, shown: bool, count: u32) -> Result<Problem, Stop> {
     let start = Instant::now(rt)?;
-    let mut problem = built(rt.alloc(), count)?;
+    let problem = built(rt.alloc(), count)?;
     tell(rt, shown, "built", count, &start)?;
+    Ok(problem)
+}
+
+/// Makes its root cells.
+fn root(rt: &HostRuntime, shown: bool, count: u32, problem: &Problem) -> Result<Cells<Pair>, Stop>
+    ensures { IfOk result (AreCells pair_ops problem.now.terms) }
+{
     let start = Instant::now(rt)?;
-    let mut cells: Cells<Pair> = Cells::root(rt.alloc(), &problem)?;
+    let cells = Cells::root(rt.alloc(), problem)?;
     tell(rt, shown, "root cells", count, &start)?;
+    Ok(cells)
+}
+
+/// Finds who uses each term.
+fn watch(rt: &HostRuntime, shown: bool, count: u32, problem: &Problem) -> Result<(), Stop> {
     let start = Instant::now(rt)?;
-    let _watches = Watches::new(rt.alloc(), &problem)?;
-    tell(rt, shown, "watches", count, &start)?;
+    let _watches = Watches::new(rt.alloc(), problem)?;
+    tell(rt, shown, "watches", count, &start)
+}
+
+/// Takes steps with a trail, until it has a tenth as many pairs as there are terms.
+fn keep(
+    rt: &HostRuntime,
+    shown: bool,
+    count: u32,
+    problem: &Problem,
+    cells: &mut Cells<Pair>,
+) -> Result<(), Stop>
+    requires { AreCells pair_ops problem.now.terms cells.old }
+    ensures { AreCells pair_ops problem.now.terms cells.new }
+{
     let start = Instant::now(rt)?;
     let mut trail = Trail::new(rt.alloc())?;
-    let pairs = kept(&problem, &mut cells, &mut trail, u64::from(count / 10))?;
-    tell(
-        rt,
-        shown,
-        "kept pairs",
-        pairs.min(u64::from(u32::MAX)) as u32,
-        &start,
-    )?;
+    let pairs = kept(problem, cells, &mut trail, u64::from(count / 10))?;
+    let pairs = pairs.min(u64::from(u32::MAX)) as u32;
+    tell(rt, shown, "kept pairs", pairs, &start)
+}
+
+/// Takes every step forward.
+fn sweep(
+    rt: &HostRuntime,
+    shown: bool,
+    problem: &Problem,
+    cells: &mut Cells<Pair>,
+) -> Result<(), Stop>
+    requires { AreCells pair_ops problem.now.terms cells.old }
+{
     let start = Instant::now(rt)?;
-    let known = swept(&problem, &mut cells);
-    tell(rt, shown, "stepped forward, known", known, &start)?;
+    let known = swept(problem, cells);
+    tell(rt, shown, "stepped forward, known", known, &start)
+}
+
+/// Evaluates the problem, and says whether 0 for each choice solves it.
+fn evaluate(rt: &HostRuntime, shown: bool, count: u32, problem: &Problem) -> Result<bool, Stop> {
     let start = Instant::now(rt)?;
-    let solved = evaluated(rt.alloc(), &problem)?;
+    let solved = evaluated(rt.alloc(), problem)?;
     tell(rt, shown, "evaluated", count, &start)?;
+    Ok(solved)
+}
+
+/// Prints what a term and a cell take, and what the problem answers to one term more.
+fn tell_sizes(rt: &HostRuntime, mut problem: Problem, solved: bool) -> Result<(), Stop> {
+    let full = problem.add_choice(Width(1));
+    let term = size_of::<Term>();
+    let cell = size_of::<Pair>();
+    eprintln!(rt; "a term {term} bytes, a cell {cell} bytes, solved {solved}, {full:?}")?;
+    Ok(())
+}
+
+/// Does all the work on a problem of this many terms.
+fn measure(rt: &HostRuntime, shown: bool, count: u32) -> Result<(), Stop> {
+    let problem = build(rt, shown, count)?;
+    let mut cells = root(rt, shown, count, &problem)?;
+    watch(rt, shown, count, &problem)?;
+    keep(rt, shown, count, &problem, &mut cells)?;
+    sweep(rt, shown, &problem, &mut cells)?;
+    let solved = evaluate(rt, shown, count, &problem)?;
     if shown {
-        let full = problem.add_choice(Width(1));
-        let term = size_of::<Term>();
-        let cell = size_of::<Pair>();
-        eprintln!(rt; "a term {term} bytes, a cell {cell} bytes, solved {solved}, {full:?}")?;
+        tell_sizes(rt, problem, solved)?;
     }
     Ok(())
 }
@@ -122,18 +176,23 @@ fn print(rt: &HostRuntime, counts: Counts, digest: u64) -> Result<(), Stop> {
     Ok(())
 }
 
-fn main(rt: HostRuntime) -> Result<(), Stop> {
-    let mut words = env::args(&rt)?.skip(1);
-    match words.next() {
-        None => measure(&rt, false, SMALL)?,
-        Some(path) => match words.next() {
-            None => measure(&rt, true, LARGE)?,
-            Some(rounds) => {
-                let rounds = rounds.as_str().parse::<u32>().unwrap_or(1);
-                return measure_trace(&rt, path.as_str(), rounds);
-            }
-        },
-    }
+/// Does the moves of the trace in a file as often as the word says, once where it says nothing else.
+fn run_trace(rt: &HostRuntime, path: &str, rounds: &str) -> Result<(), Stop> {
+    measure_trace(rt, path, rounds.parse::<u32>().unwrap_or(1))
+}
+
+/// Does all the work on a small problem.
+fn try_small(rt: &HostRuntime) -> Result<(), Stop> {
+    measure(rt, false, SMALL)?;
     println!(rt; "problem and cells: every call ran")?;
     Ok(())
+}
+
+fn main(rt: HostRuntime) -> Result<(), Stop> {
+    let mut words = env::args(&rt)?.skip(1);
+    match (words.next(), words.next()) {
+        (Some(path), Some(rounds)) => run_trace(&rt, path.as_str(), rounds.as_str()),
+        (Some(_), None) => measure(&rt, true, LARGE),
+        (None, _) => try_small(&rt),
+    }
 }

@@ -64,22 +64,35 @@ fn try_small(rt: &HostRuntime) -> Result<(), Stop> {
     Ok(())
 }
 
-/// Builds the problem of the list in a file, finds the values of its terms, and tells how long
-/// each took.
-fn measure(rt: &HostRuntime, model_path: &str, list_path: &str) -> Result<(), Stop> {
-    let model = model(rt.alloc(), fs::read(rt, model_path)?.as_slice())?;
-    let list = list(rt.alloc(), &model, fs::read(rt, list_path)?.as_slice())?;
+/// Builds the problem of a list, and tells how long it took.
+fn build(rt: &HostRuntime, model: &Accepted, list: &Requests) -> Result<Problem, Stop>
+    requires { IsList (accepted_data model.now) list.now }
+{
     let start = Instant::now(rt)?;
-    let problem = encode(rt.alloc(), &model, &list)?;
+    let problem = encode(rt.alloc(), model, list)?;
     let taken = start.elapsed(rt)?.as_millis();
     let terms = problem.terms.len();
     let required = problem.required.len();
     eprintln!(rt; "built {terms} terms, {required} required: {taken} ms")?;
+    Ok(problem)
+}
+
+/// Finds the values of its terms, and tells how long it took.
+fn evaluate(rt: &HostRuntime, problem: &Problem) -> Result<(), Stop> {
     let start = Instant::now(rt)?;
-    let solved = zeros_solve(rt.alloc(), &problem)?;
+    let solved = zeros_solve(rt.alloc(), problem)?;
     let taken = start.elapsed(rt)?.as_millis();
+    let terms = problem.terms.len();
     eprintln!(rt; "values of {terms} terms: {taken} ms, zeros solve {solved}")?;
     Ok(())
+}
+
+/// Does both with the list in a file.
+fn measure(rt: &HostRuntime, model_path: &str, list_path: &str) -> Result<(), Stop> {
+    let model = model(rt.alloc(), fs::read(rt, model_path)?.as_slice())?;
+    let list = list(rt.alloc(), &model, fs::read(rt, list_path)?.as_slice())?;
+    let problem = build(rt, &model, &list)?;
+    evaluate(rt, &problem)
 }
 
 fn main(rt: HostRuntime) -> Result<(), Stop> {

@@ -1,5 +1,5 @@
 use Rattle.std.proofs.Common.{◌≡◌, ◌-◌, ◌<◌}
-use Rattle.dt_solve.proofs.searching.search.Given as goal
+use Rattle.dt_solve.proofs.searching.search_on.Given as goal
 
 abbrev pub invariant-loop-reach : goal.invariant-loop-reach
 invariant-loop-reach g l = record {
