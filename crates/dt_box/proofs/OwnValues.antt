@@ -1,6 +1,6 @@
 -- A node tells nothing new where all bits near it are known, and its value is its operator's.
-use Rattle.std.proofs.Common.{◌≡◌, ℕ, zero, suc, ◌+◌, ◌-◌, ◌^◌, ◌%◌, ◌<◌, ◌≤◌, Bool, true, false, not, ◌&&◌, ◌||◌, ◌⊎◌, inl, inr, List, length, get_or, bit_and, refl, sym, ap, ◌∙◌, subst, ⊎_elim, arith}
-use Rattle.std.proofs.lemmas.Bool.{cases_Bool, cases_lt, false≢true, or_from, and_from}
+use Rattle.std.proofs.Common.{◌≡◌, ℕ, zero, suc, ◌-◌, ◌^◌, ◌%◌, ◌<◌, ◌≤◌, Bool, true, false, not, ◌&&◌, ◌⊎◌, inl, inr, List, length, get_or, bit_and, refl, sym, ap, ◌∙◌, subst, ⊎_elim, arith}
+use Rattle.std.proofs.lemmas.Bool.{cases_Bool, cases_lt, false≢true, or_from}
 use Rattle.std.proofs.lemmas.Nat.{and_mask}
 use Rattle.dt_lemmas.proofs.Powers.{one_below}
 use Rattle.std.proofs.lemmas.List.{get_or_read}
@@ -17,12 +17,11 @@ use Rattle.dt_terms.specs.declared.term.Term.{Term}
 use Rattle.dt_terms.specs.declared.term.Term.TheVariants.{Choice, Node}
 use Rattle.dt_terms.specs.Terms.{term_at, width_of_term, bits_at, AreTerms}
 use Rattle.dt_terms.proofs.Placed.{IsPlaced, placed, fits_parts}
-use Rattle.dt_box.specs.declared.step.Step.{Step}
 use Rattle.dt_box.specs.declared.step.Step.TheVariants.{Forward, Backward}
 use Rattle.dt_box.specs.Cells.{cell_at, AreCells}
 use Rattle.dt_box.specs.Changes.{has_news, knows_more}
-use Rattle.dt_box.specs.Steps.{IsStep, IsNodeTerm, HasPlace, operand_at, operand_cell, target, propagated_forward, propagated_backward, propagated, narrowed}
-use Rattle.dt_box.specs.Stillness.{tells, IsStillAt, origin}
+use Rattle.dt_box.specs.Steps.{IsStep, IsNodeTerm, HasPlace, operand_at, operand_cell, target, propagated_forward, propagated_backward, propagated}
+use Rattle.dt_box.specs.Stillness.{tells}
 use Rattle.dt_box.specs.Fixed.{IsOnly, IsOperandNumber, IsOperatorValue, ComesTo, Fixes}
 use Rattle.dt_box.proofs.Steps.{fitting, fitting_at, step_alike, used_cell}
 use Rattle.dt_box.proofs.Stillness.{still_node}

@@ -1,6 +1,6 @@
 use crate::change::{change_of, put};
 use crate::near::are_settled_after;
-use crate::propagation::{narrowed, target};
+use crate::propagation::{narrowed_backward, narrowed_forward, target};
 use crate::root::{full_cells, require_ones, unused};
 use crate::sweep::{first_empty, first_step, step_from, tells};
 use crate::trail::{put_kept, undo_to};
@@ -100,8 +100,16 @@ impl<D: Domain> Cells<D> {
         ensures are { AreCells D.ops problem.now.terms self.new }
     {
         let terms = problem.terms.as_slice();
-        let narrowed = narrowed(terms, &self.cells, &self.unused, step);
-        put(&mut self.cells[target(terms, step) as usize], &narrowed)
+        match step {
+            Step::Forward { term } => put(
+                narrowed_forward(terms, &self.cells, &self.unused, term),
+                &mut self.cells[term as usize],
+            ),
+            Step::Backward { parent, place } => put(
+                narrowed_backward(terms, &self.cells, &self.unused, parent, place),
+                &mut self.cells[target(terms, step) as usize],
+            ),
+        }
     }
 
     /// Takes a step as `apply` does, and keeps in the trail what the target's cell was, unless the
@@ -122,10 +130,21 @@ impl<D: Domain> Cells<D> {
         ensures kept { IsKept self.old trail.old self.new trail.new }
     {
         let terms = problem.terms.as_slice();
-        let narrowed = narrowed(terms, &self.cells, &self.unused, step);
         let at = target(terms, step);
-        let cell = &mut self.cells[at as usize];
-        put_kept(cell, at, &narrowed, &mut trail.changes)
+        match step {
+            Step::Forward { term } => put_kept(
+                narrowed_forward(terms, &self.cells, &self.unused, term),
+                &mut self.cells[at as usize],
+                at,
+                &mut trail.changes,
+            ),
+            Step::Backward { parent, place } => put_kept(
+                narrowed_backward(terms, &self.cells, &self.unused, parent, place),
+                &mut self.cells[at as usize],
+                at,
+                &mut trail.changes,
+            ),
+        }
     }
 
     /// Sets a bit of the term at a position: its cell becomes the one that holds what it held with
@@ -169,7 +188,7 @@ impl<D: Domain> Cells<D> {
         let _ = &problem.terms;
         let cell = &mut self.cells[term as usize];
         let narrowed = Some(cell.with_bit(bit, value));
-        put_kept(cell, term, &narrowed, &mut trail.changes)
+        put_kept(narrowed, cell, term, &mut trail.changes)
     }
 
     /// The cells become what they were when the trail had this many pairs, and the trail keeps

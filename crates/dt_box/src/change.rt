@@ -47,30 +47,31 @@ pub(crate) fn change_of<D: Domain>(old: &D, new: &D) -> Changed
 // Puts into a cell what narrows it, if anything does, and says what became of it. Else the cell isn't
 // written.
 #[inline(always)]
-pub(crate) fn put<D: Domain>(cell: &mut D, narrowed: &Option<D>) -> Changed
+pub(crate) fn put<D: Domain>(narrowed: Option<D>, cell: &mut D) -> Changed
     requires cell { D.ops.IsDomain cell.old }
-    requires narrowed { IfSome narrowed.now D.ops.IsDomain }
-    ensures cell { MatchOption narrowed.now (cell.new ≡ cell.old) (λ new. cell.new ≡ new) }
+    requires narrowed { IfSome narrowed D.ops.IsDomain }
+    ensures cell { MatchOption narrowed (cell.new ≡ cell.old) (λ new. cell.new ≡ new) }
     ensures change { IsChange D.ops cell.old cell.new result }
 {
     match narrowed {
         None => unchanged(cell),
         Some(new) => {
-            let changed = change_of(cell, new);
-            *cell = *new;
+            let changed = change_of(cell, &new);
+            *cell = new;
             changed
         }
     }
 }
 
 // Whether a cell would become empty, or know a further bit, where this narrows it, if anything does.
-pub(crate) fn has_news<D: Domain>(cell: &D, narrowed: &Option<D>) -> bool
+#[inline(always)]
+pub(crate) fn has_news<D: Domain>(narrowed: Option<D>, cell: &D) -> bool
     requires cell { D.ops.IsDomain cell.now }
-    requires narrowed { IfSome narrowed.now D.ops.IsDomain }
-    ensures { MatchOption narrowed.now (result ≡ has_news D.ops cell.now cell.now) (λ new. result ≡ has_news D.ops cell.now new) }
+    requires narrowed { IfSome narrowed D.ops.IsDomain }
+    ensures { MatchOption narrowed (result ≡ has_news D.ops cell.now cell.now) (λ new. result ≡ has_news D.ops cell.now new) }
 {
     match narrowed {
         None => cell.is_empty(),
-        Some(new) => new.is_empty() || knows_more(cell, new),
+        Some(new) => new.is_empty() || knows_more(cell, &new),
     }
 }

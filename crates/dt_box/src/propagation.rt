@@ -57,12 +57,20 @@ fn operand_cell<'a, D: Domain>(
 
 // The node's cell, narrowed by what its operands' cells say of it; None where that is nothing new.
 #[inline(always)]
-fn narrowed_forward<D: Domain>(terms: &[Term], cells: &[D], unused: &D, term: u32) -> Option<D>
+pub(crate) fn narrowed_forward<D: Domain>(
+    terms: &[Term],
+    cells: &[D],
+    unused: &D,
+    term: u32,
+) -> Option<D>
     requires terms { AreTerms terms.now }
     requires cells { AreCells D.ops terms.now cells.now }
     requires unused { unused.now ≡ D.ops.full (width 1) }
     requires step { IsStep terms.now (Forward term) }
-    ensures { IsNarrowed D.ops (cell_at D.ops cells.now term) (propagated D.ops terms.now (Forward term) cells.now) result }
+    ensures value { IsNarrowed D.ops (cell_at D.ops cells.now term) (propagated D.ops terms.now (Forward term) cells.now) result }
+    ensures domain { IfSome result D.ops.IsDomain }
+    ensures cell { D.ops.IsDomain (cell_at D.ops cells.now term) }
+    ensures within { term < length cells.now }
 {
     match terms[term as usize] {
         Term::Node { op, a, b, c, .. } => {
@@ -80,7 +88,7 @@ fn narrowed_forward<D: Domain>(terms: &[Term], cells: &[D], unused: &D, term: u3
 // The cell of the operand at a place, narrowed by what the node's cell and those of its operands say
 // of it; None where that is nothing new.
 #[inline(always)]
-fn narrowed_backward<D: Domain>(
+pub(crate) fn narrowed_backward<D: Domain>(
     terms: &[Term],
     cells: &[D],
     unused: &D,
@@ -91,7 +99,10 @@ fn narrowed_backward<D: Domain>(
     requires cells { AreCells D.ops terms.now cells.now }
     requires unused { unused.now ≡ D.ops.full (width 1) }
     requires step { IsStep terms.now (Backward parent place) }
-    ensures { IsNarrowed D.ops (cell_at D.ops cells.now (target terms.now (Backward parent place))) (propagated D.ops terms.now (Backward parent place) cells.now) result }
+    ensures value { IsNarrowed D.ops (cell_at D.ops cells.now (target terms.now (Backward parent place))) (propagated D.ops terms.now (Backward parent place) cells.now) result }
+    ensures domain { IfSome result D.ops.IsDomain }
+    ensures cell { D.ops.IsDomain (cell_at D.ops cells.now (target terms.now (Backward parent place))) }
+    ensures within { target terms.now (Backward parent place) < length cells.now }
 {
     match terms[parent as usize] {
         Term::Node { op, a, b, c, .. } => {
@@ -105,24 +116,5 @@ fn narrowed_backward<D: Domain>(
             )
         }
         Term::Choice { .. } => unreachable!(),
-    }
-}
-
-// The cell of the step's target, narrowed by what its neighbours' cells say of it; None where that is
-// nothing new.
-#[inline(always)]
-pub(crate) fn narrowed<D: Domain>(terms: &[Term], cells: &[D], unused: &D, step: Step) -> Option<D>
-    requires terms { AreTerms terms.now }
-    requires cells { AreCells D.ops terms.now cells.now }
-    requires unused { unused.now ≡ D.ops.full (width 1) }
-    requires step { IsStep terms.now step }
-    ensures value { IsNarrowed D.ops (cell_at D.ops cells.now (target terms.now step)) (propagated D.ops terms.now step cells.now) result }
-    ensures domain { IfSome result D.ops.IsDomain }
-    ensures cell { D.ops.IsDomain (cell_at D.ops cells.now (target terms.now step)) }
-    ensures target { target terms.now step < length cells.now }
-{
-    match step {
-        Step::Forward { term } => narrowed_forward(terms, cells, unused, term),
-        Step::Backward { parent, place } => narrowed_backward(terms, cells, unused, parent, place),
     }
 }

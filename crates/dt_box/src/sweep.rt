@@ -10,7 +10,7 @@ ghost use Rattle.dt_box.specs.Stillness.{HasNoEmpty, tells, TellsNew, IsStillAt,
 use crate::Step;
 use crate::change::has_news;
 use crate::fixed::is_fixed;
-use crate::propagation::{narrowed, target};
+use crate::propagation::{narrowed_backward, narrowed_forward, target};
 use dt_bits::arity;
 use dt_domain::Domain;
 use dt_terms::Term;
@@ -38,8 +38,13 @@ pub(crate) fn tells<D: Domain>(terms: &[Term], cells: &[D], unused: &D, step: St
     requires step { IsStep terms.now step }
     ensures { result ≡ tells D.ops terms.now step cells.now }
 {
-    let narrowed = narrowed(terms, cells, unused, step);
-    has_news(&cells[target(terms, step) as usize], &narrowed)
+    let cell = &cells[target(terms, step) as usize];
+    match step {
+        Step::Forward { term } => has_news(narrowed_forward(terms, cells, unused, term), cell),
+        Step::Backward { parent, place } => {
+            has_news(narrowed_backward(terms, cells, unused, parent, place), cell)
+        }
+    }
 }
 
 // The first step backward from a node, with this many operands, that tells something new.

@@ -80,14 +80,14 @@ fn keep<D: Domain>(
 // says what became of it. Without memory for that, all stays.
 #[inline(always)]
 pub(crate) fn put_kept<D: Domain>(
+    narrowed: Option<D>,
     cell: &mut D,
     term: u32,
-    narrowed: &Option<D>,
     changes: &mut Vec<(u32, D)>,
 ) -> Result<Changed, NoMemory>
     requires cell { D.ops.IsDomain cell.old }
-    requires narrowed { IfSome narrowed.now D.ops.IsDomain }
-    ensures cell { OnOk result (MatchOption narrowed.now (cell.new ≡ cell.old) (λ new. cell.new ≡ new)) }
+    requires narrowed { IfSome narrowed D.ops.IsDomain }
+    ensures cell { OnOk result (MatchOption narrowed (cell.new ≡ cell.old) (λ new. cell.new ≡ new)) }
     ensures change { IfOk result (λ changed. IsChange D.ops cell.old cell.new changed) }
     ensures changes { IfOk result (λ changed. changes.new.items ≡ with_change changed term cell.old changes.old.items) }
     ensures err { OnErr result ((cell.new ≡ cell.old) × (changes.new.items ≡ changes.old.items)) }
@@ -99,9 +99,9 @@ pub(crate) fn put_kept<D: Domain>(
             Ok(changed)
         }
         Some(new) => {
-            let changed = change_of(cell, new);
+            let changed = change_of(cell, &new);
             keep(changes, changed, term, cell)?;
-            *cell = *new;
+            *cell = new;
             Ok(changed)
         }
     }
