@@ -1,13 +1,11 @@
 -- A Triple of one bit is told by which of 0 and 1 it holds, and each step between such Triples is seen by trying all of them.
-use Rattle.std.proofs.Common.{◌≡◌, ℕ, zero, suc, ◌^◌, ◌<◌, Bool, true, false, ◌&&◌, ◌||◌, not, eqb, List, [], ◌∷◌, Option, Some, None, refl, sym, ap, ◌∙◌, subst, ⊎_elim, arith}
-use Rattle.std.specs.Prelude.{MatchOption}
+use Rattle.std.proofs.Common.{◌≡◌, ℕ, zero, suc, ◌^◌, ◌<◌, Bool, true, false, ◌&&◌, ◌||◌, not, eqb, Option, Some, None, refl, sym, ap, ◌∙◌, subst, ⊎_elim, arith}
 use Rattle.std.proofs.lemmas.Bool.{cases_Bool, cond-false, leb-true, false_from_ne_true, and_parts, eqb-true, false≢true, true≢false}
 use Rattle.dt_bits.specs.Bits.{IsWidth, width, bit, number_of, some_below}
 use Rattle.dt_bits.specs.Ops.{arity_of, fits_at, width_of}
 use Rattle.dt_bits.specs.declared.op.Op.{Op}
 use Rattle.dt_bits.specs.declared.op.Op.TheVariants.{Const, Not, And, Or, Xor, Add, Sub, Slice, Concat, SignExt, Shl, Shr, Eq, Ltu, Ite}
 use Rattle.dt_bits.specs.declared.value.Width.{Width}
-use Rattle.dt_domain.specs.Domain.{Fitting, FittingAt, IsNarrowed}
 use Rattle.dt_pair.specs.Pair.{normal, pair_full}
 use Rattle.dt_pair.specs.Ends.{least_candidate, greatest_candidate}
 use Rattle.dt_sets.specs.declared.Triple.{Triple}
@@ -17,8 +15,7 @@ use Rattle.dt_lemmas.proofs.Equalities.{two, three}
 use Rattle.dt_sets.specs.Lists.{has, below}
 use Rattle.dt_sets.specs.Sets.{is_narrow, listing, everything, sets_full}
 use Rattle.dt_sets.specs.Laws.Form.{AreListed}
-use Rattle.dt_sets.specs.Triple.{IsTriple, beside, triple_holds, of_numbers, reduced, triple_full, triple_one, triple_meet, triple_forward, triple_backward}
-use Rattle.dt_sets.specs.TripleOps.{triple_ops}
+use Rattle.dt_sets.specs.Triple.{IsTriple, beside, triple_holds, reduced, triple_full, triple_one, triple_meet, triple_forward, triple_backward}
 use Rattle.dt_sets.specs.TripleLaws.{triple_laws, triple_eq, triple_exact}
 use Rattle.dt_sets.specs.TripleLaws.Numbers.{numbers_hold, numbers_is, numbers_width}
 use Rattle.dt_sets.specs.TripleLaws.Reduced.{reduced_many, canonical}

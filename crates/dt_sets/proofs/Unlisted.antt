@@ -1,12 +1,11 @@
 -- Where the values themselves say nothing: a step is that of the Pairs, and the listed numbers are those that it holds.
-use Rattle.std.proofs.Common.{◌≡◌, ℕ, Bool, true, false, ◌&&◌, ◌||◌, not, ltb, List, [], ◌∷◌, refl, sym, ap, ◌∙◌, subst, ⊎_elim, inl, inr, arith}
-use Rattle.std.specs.Prelude.{MatchOption, Option}
-use Rattle.std.proofs.lemmas.Bool.{cases_Bool, cond-true, cond-false, lt-ltb, false≢true, true≢false}
-use Rattle.dt_bits.specs.Bits.{IsWidth}
-use Rattle.dt_bits.specs.Ops.{some_used, arity_of}
+use Rattle.std.proofs.Common.{◌≡◌, ℕ, Bool, true, false, ◌&&◌, ◌||◌, not, List, [], ◌∷◌, refl, sym, ap, ◌∙◌, subst, ⊎_elim, inr, arith}
+use Rattle.std.specs.Prelude.{Option}
+use Rattle.std.proofs.lemmas.Bool.{cases_Bool, cond-true, cond-false, false≢true}
+use Rattle.dt_bits.specs.Ops.{some_used}
 use Rattle.dt_bits.specs.declared.op.Op.{Op}
 use Rattle.dt_bits.specs.declared.value.Width.{Width}
-use Rattle.dt_domain.specs.Domain.{AreAlike, Fitting, FittingAt, IsNarrowed, operand, result_width}
+use Rattle.dt_domain.specs.Domain.{AreAlike, Fitting, FittingAt, IsNarrowed, operand}
 use Rattle.dt_known.specs.declared.Known.{Known}
 use Rattle.dt_known.specs.Known.{known_holds, known_meet}
 use Rattle.dt_known.specs.Laws.{known_laws}
@@ -30,14 +29,13 @@ use Rattle.dt_pair.proofs.Narrowed.{AreAlikeParts}
 use Rattle.dt_lemmas.proofs.Equalities.{two}
 use Rattle.dt_sets.specs.declared.Sets.{Sets}
 use Rattle.dt_sets.specs.declared.Triple.{Triple}
-use Rattle.dt_sets.specs.Sets.{is_narrow, listed, listing, everything, no_sets, sets_holds, sets_is_empty, sets_full, sets_meet}
+use Rattle.dt_sets.specs.Sets.{is_narrow, listing, everything, no_sets, sets_holds, sets_is_empty, sets_full, sets_meet}
 use Rattle.dt_sets.specs.Forward.{some_used_empty, are_few, width_after, sets_forward}
 use Rattle.dt_sets.specs.Backward.{sets_backward}
-use Rattle.dt_sets.specs.Ops.{sets_ops}
 use Rattle.dt_sets.specs.Laws.{sets_laws}
 use Rattle.dt_sets.specs.Laws.Form.{nothing_of}
 use Rattle.dt_sets.specs.Laws.Meets.{empty_holds as none_listed, meets as sets_meets}
-use Rattle.dt_sets.specs.Triple.{IsTriple, pair_of, beside, triple_holds, no_triple, of_numbers, of_pair, reduced, triple_meet, triple_forward, triple_backward}
+use Rattle.dt_sets.specs.Triple.{IsTriple, pair_of, no_triple, of_numbers, of_pair, reduced, triple_meet, triple_forward, triple_backward}
 use Rattle.dt_sets.specs.TripleOps.{triple_ops}
 use Rattle.dt_sets.specs.TripleLaws.Reduced.{Reduces, both, reduced_many, reduced_few, reduced_width, reduced_holds, reduced_is, reduced_empty, none_empty, canonical}
 use Rattle.dt_sets.specs.TripleLaws.Calls.{meet_is, meet_red, fitting_pair, at_pair, forward_red, backward_red, result_alike, operand_widths}

@@ -34,6 +34,7 @@ impl Held {
     }
 
     /// The Triple of one bit that holds these.
+    #[inline(never)]
     pub fn triple(self) -> Triple
         ensures { result ≡ of_bits self }
     {

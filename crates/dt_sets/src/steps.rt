@@ -3,7 +3,7 @@ ghost use Rattle.std.specs.Prelude.{◌≡◌, false, true};
 ghost use Rattle.dt_domain.specs.Domain.{Fitting, FittingAt, IsNarrowed, operand, result_width};
 ghost use Rattle.dt_pair.specs.Pair.{AreParts, normal};
 ghost use Rattle.dt_sets.specs.Sets.{sets_full};
-ghost use Rattle.dt_sets.specs.Triple.{IsTriple, reduced, triple_forward, triple_backward};
+ghost use Rattle.dt_sets.specs.Triple.{IsTriple, reduced, triple_meet, triple_forward, triple_backward};
 ghost use Rattle.dt_sets.specs.TripleOps.{triple_ops};
 
 use crate::Triple;
@@ -14,6 +14,19 @@ use dt_pair::Pair;
 use dt_range::Range;
 
 impl Triple {
+    /// The meet with the numbers that known bits and a range hold. It isn't inlined, since most steps
+    /// narrow nothing, and those are to hand on nothing of a Triple's size.
+    #[inline(never)]
+    fn met_with_parts(&self, known: &Known, range: &Range) -> Triple
+        requires self_is { IsTriple self.now }
+        requires parts { AreParts known.now range.now }
+        requires widths { self.now.known.width ≡ known.now.width }
+        ensures { result ≡ triple_meet self.now (reduced (normal known.now range.now) (sets_full known.now.width)) }
+    {
+        let pair = Pair::normal(&self.known.meet(known), &self.range.meet(range));
+        Triple::reduced(&pair, &self.sets)
+    }
+
     /// The meet with the numbers that known bits and a range hold, or None, which says that this is
     /// the Triple itself. The parts are compared as they are, so most calls normalise nothing.
     #[inline(always)]
@@ -26,8 +39,7 @@ impl Triple {
         if self.known.is_within(known) && self.range.is_within(range) {
             return None;
         }
-        let pair = Pair::normal(&self.known.meet(known), &self.range.meet(range));
-        Some(Triple::reduced(&pair, &self.sets))
+        Some(self.met_with_parts(known, range))
     }
 
     /// The meet with another, or None, which says that this is the Triple itself.

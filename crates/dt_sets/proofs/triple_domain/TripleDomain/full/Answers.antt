@@ -1,4 +1,4 @@
-use Rattle.std.proofs.Common.{sym, ap, ◌∙◌}
+use Rattle.std.proofs.Common.{sym, ◌∙◌}
 use Rattle.dt_lemmas.proofs.Equalities.{two}
 use Rattle.dt_sets.specs.Triple.{beside}
 use Rattle.dt_sets.proofs.OneBits.{full_beside}
