@@ -25,48 +25,56 @@ fn apply2(alloc: Global, op: Op, a: Expr, b: Expr) -> Result<Expr, NoMemory>
     })
 }
 
+/// The bits `hi` to `lo` of an expression, both counted from 0 and taken in.
 pub fn part(alloc: Global, hi: u32, lo: u32, a: Expr) -> Result<Expr, NoMemory>
     ensures { IfOk result (λ e. tree_of e ≡ part hi lo (tree_of a)) }
 {
     apply1(alloc, Op::Slice { hi, lo }, a)
 }
 
+/// The bit `k` of an expression, 1 wide.
 pub fn bit(alloc: Global, k: u32, a: Expr) -> Result<Expr, NoMemory>
     ensures { IfOk result (λ e. tree_of e ≡ bit k (tree_of a)) }
 {
     part(alloc, k, k, a)
 }
 
+/// The bitwise opposite of an expression: of one that is 1 wide, whether it is 0.
 pub fn no(alloc: Global, a: Expr) -> Result<Expr, NoMemory>
     ensures { IfOk result (λ e. tree_of e ≡ no (tree_of a)) }
 {
     apply1(alloc, Op::Not, a)
 }
 
+/// The bits that two expressions of one width both have: of two that are 1 wide, whether both hold.
 pub fn both(alloc: Global, a: Expr, b: Expr) -> Result<Expr, NoMemory>
     ensures { IfOk result (λ e. tree_of e ≡ both (tree_of a) (tree_of b)) }
 {
     apply2(alloc, Op::And, a, b)
 }
 
+/// The bits that one of two expressions of one width has: of two that are 1 wide, whether one holds.
 pub fn either(alloc: Global, a: Expr, b: Expr) -> Result<Expr, NoMemory>
     ensures { IfOk result (λ e. tree_of e ≡ either (tree_of a) (tree_of b)) }
 {
     apply2(alloc, Op::Or, a, b)
 }
 
+/// Whether an expression of this width is this constant, 1 wide.
 pub fn is(alloc: Global, a: Expr, width: u32, bits: u128) -> Result<Expr, NoMemory>
     ensures { IfOk result (λ e. tree_of e ≡ is (tree_of a) width bits) }
 {
     apply2(alloc, Op::Eq, a, Expr::Value { width, bits })
 }
 
+/// Two expressions side by side: `a` gives the upper bits and `b` the lower ones.
 pub fn joined(alloc: Global, a: Expr, b: Expr) -> Result<Expr, NoMemory>
     ensures { IfOk result (λ e. tree_of e ≡ joined (tree_of a) (tree_of b)) }
 {
     apply2(alloc, Op::Concat, a, b)
 }
 
+/// The value of `b` where `a`, which is 1 wide, is 1, and else that of `c`.
 pub fn choose(alloc: Global, a: Expr, b: Expr, c: Expr) -> Result<Expr, NoMemory>
     ensures { IfOk result (λ e. tree_of e ≡ choose (tree_of a) (tree_of b) (tree_of c)) }
 {
