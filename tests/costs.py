@@ -39,30 +39,30 @@ class Costs:
 
     def __init__(self, folder, gate):
         self.folder, self.gate = folder, gate
-        # by process and start: the crate, and whether a wrong body is tried; None for other processes
+        # by process and start: the crate, and whether a wrong body is tried
         self.works, self.seconds = {}, {}
 
     def work_of(self, process, parent):
         """A copy that the compiler makes of itself counts with the process that waits for it."""
-        if any(at == parent and work for (at, _), work in self.works.items()):
+        if any(at == parent for at, _ in self.works):
             return None
         if not os.readlink(f"/proc/{process}/exe").endswith("/rattle"):
             return None
         name = re.search(r"\0--crate-name\0([^\0]+)", read(process, "cmdline"))
         where = os.readlink(f"/proc/{process}/cwd")
-        tries = re.search(rf"/rt-edits?-{self.gate}-", where) is not None
-        ours = tries or where.startswith(f"{self.folder}/")
-        return (name[1], tries) if name and ours else None
+        # (a folder of the gate's own has its process in its name)
+        room = re.search(rf"/rt-([a-z]+)-{self.gate}-", where)
+        ours = room or where.startswith(f"{self.folder}/")
+        return (name[1], room is not None and room[1].startswith("edit")) if name and ours else None
 
     def look(self):
         for process in filter(str.isdigit, os.listdir("/proc")):
             try:
                 parent, start, seconds = stat_of(process)
                 key = process, start
-                if key not in self.works:
-                    self.works[key] = self.work_of(process, parent)
-                if self.works[key]:
-                    self.seconds[key] = seconds
+                work = self.works.get(key) or self.work_of(process, parent)
+                if work:
+                    self.works[key], self.seconds[key] = work, seconds
             except (OSError, ValueError):
                 # (it has ended)
                 continue
