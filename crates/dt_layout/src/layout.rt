@@ -4,7 +4,6 @@ mod places;
 mod walking;
 mod writing;
 
-use crate::Draws;
 use crate::known::{Known, low};
 use crate::layout::walking::Walked;
 use crate::memory::Memory;
@@ -12,6 +11,7 @@ use crate::program::Program;
 use crate::routes::Routes;
 use crate::solver::Solver;
 use dt_bits::NoMemory;
+use dt_draws::Draws;
 use dt_model::Accepted;
 use dt_request::Requests;
 use std::alloc::Global;

@@ -1,11 +1,11 @@
 // Where tables, words and pages may lie, and which addresses are taken for them.
 ghost use Rattle.std.specs.Prelude.{◌≡◌};
-ghost use Rattle.dt_layout.specs.Drawing.{drawn, after_draw};
+ghost use Rattle.dt_draws.specs.Drawing.{drawn, after_draw};
 
-use crate::Draws;
 use crate::known::{Known, low, up};
 use crate::memory::{Block, Memory};
 use dt_bits::Width;
+use dt_draws::Draws;
 use dt_request::Requests;
 
 /// How many blocks are looked at one after another, and how many at random.

@@ -1,10 +1,10 @@
 // What the walk of one access asks of registers, inputs and words, and what is chosen to meet it.
-use crate::Draws;
 use crate::backward::{Asked, Choosing, backward};
 use crate::forward::{Operand, forward};
 use crate::known::{Known, low};
 use crate::program::{Kind, Part, Program};
 use dt_bits::{NoMemory, Width};
+use dt_draws::Draws;
 use std::alloc::Global;
 
 /// What a variable has: nothing yet, the word in a slot, or an expression of which so much was known

@@ -10,6 +10,6 @@
 mod placer;
 mod searching;
 
-pub use dt_layout::Draws;
+pub use dt_draws::Draws;
 pub use placer::Placer;
 pub use searching::search_list;

@@ -1,3 +1,9 @@
+//! Numbers that are drawn: a stream of them is fixed by a seed.
+//!
+//! Proved: `Draws` is the generator of its seed, and each number is made of its next two words. It
+//! takes no memory.
+#![tactic(auto)]
+
 ghost use Rattle.std.specs.Prelude.{◌≡◌, ◌+◌, ◌*◌, ◌%◌, ◌^◌};
 ghost use Rattle.dt_bits.specs.Bits.{IsWidth};
 
@@ -37,7 +43,7 @@ impl Model for Draws {
 }
 
 impl Draws {
-    ghost use Rattle.dt_layout.specs.Drawing.{generator_of, drawn, after_draw};
+    ghost use Rattle.dt_draws.specs.Drawing.{generator_of, drawn, after_draw};
 
     /// The stream of a seed.
     pub fn new(seed: u64) -> Draws
