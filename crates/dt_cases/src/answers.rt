@@ -1,23 +1,16 @@
 //! Which call a case asks for, and its answer.
 use crate::stop::Stop;
-use crate::{claims, commands, images, lists, models, problems, sources, told, walks};
+use crate::{claims, commands, images, lists, models, sources};
 use dt_script::{Calls, Case};
 use std::alloc::{AllocError, Global};
 
 /// Calls on the texts of a model.
 fn push_of_model(alloc: Global, call: &str, case: Case, out: &mut String) -> Result<(), Stop> {
     match call {
-        "check" => models::checked(alloc, case, out),
-        "nodes" => models::nodes(alloc, case, out),
-        "print" => models::printed(alloc, case, out),
-        "list" => lists::listed(alloc, case, out),
-        "image" => images::printed(alloc, case, out),
-        "walk" => walks::walks(alloc, case, out),
-        "rules" => walks::rules(alloc, case, out),
-        "judge" => claims::judged(alloc, case, out),
-        "encode" => problems::encoded(alloc, case, out),
-        "terms" => problems::terms(alloc, case, out),
-        "told" => told::told(alloc, case, out),
+        "check" | "nodes" | "print" => models::answer(alloc, call, case, out),
+        "list" | "encode" | "terms" | "told" => lists::answer(alloc, call, case, out),
+        "image" | "walk" | "rules" => images::answer(alloc, call, case, out),
+        "judge" => claims::answer(alloc, case, out),
         _ => Err(Stop::Unknown),
     }
 }

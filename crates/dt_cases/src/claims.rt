@@ -40,10 +40,33 @@ fn push_found(
     Ok(())
 }
 
+/// The answer for a case of this model and list.
+fn answer_of_list(
+    alloc: Global,
+    case: Case,
+    out: &mut String,
+    model: &Accepted,
+    list: &Requests,
+) -> Result<(), Stop>
+    requires { IsList (accepted_data model.now) list.now }
+{
+    let image = image(alloc, model, case)?;
+    push_found(alloc, out, model, list, &image)
+}
+
+/// The answer for a case of this model.
+fn answer_for(
+    alloc: Global,
+    case: Case,
+    out: &mut String,
+    model: &Accepted,
+) -> Result<(), Stop> {
+    let list = list(alloc, model, case)?;
+    answer_of_list(alloc, case, out, model, &list)
+}
+
 /// Whether the image meets the list, or which is the first claim that doesn't hold.
-pub fn judged(alloc: Global, case: Case, out: &mut String) -> Result<(), Stop> {
+pub fn answer(alloc: Global, case: Case, out: &mut String) -> Result<(), Stop> {
     let model = model(alloc, case)?;
-    let list = list(alloc, &model, case)?;
-    let image = image(alloc, &model, case)?;
-    push_found(alloc, out, &model, &list, &image)
+    answer_for(alloc, case, out, &model)
 }

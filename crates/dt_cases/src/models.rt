@@ -1,5 +1,5 @@
 //! Models: read, checked and printed.
-use crate::output::push_bytes;
+use crate::output::push_text;
 use crate::stop::Stop;
 use dt_model::{Accepted, Act, Model};
 use dt_modeltext::{print_model, read_model};
@@ -9,21 +9,6 @@ use std::alloc::{AllocError, Global};
 /// The model of the case.
 pub fn model(alloc: Global, case: Case) -> Result<Accepted, Stop> {
     Ok(read_model(alloc, case.text("model").as_bytes())?)
-}
-
-/// Whether the model is accepted.
-pub fn checked(alloc: Global, case: Case, out: &mut String) -> Result<(), Stop> {
-    model(alloc, case)?;
-    out.push_str("accepted\n")?;
-    Ok(())
-}
-
-/// The printed text of the model.
-pub fn printed(alloc: Global, case: Case, out: &mut String) -> Result<(), Stop> {
-    let model = model(alloc, case)?;
-    let text = print_model(alloc, &model)?;
-    push_bytes(out, text.as_slice())?;
-    Ok(())
 }
 
 /// The bits of words and addresses, and how many names, rules and nodes there are.
@@ -70,9 +55,21 @@ fn push_nodes(out: &mut String, model: &Model) -> Result<(), AllocError> {
     Ok(())
 }
 
-/// The sizes of the model, and what each node does.
-pub fn nodes(alloc: Global, case: Case, out: &mut String) -> Result<(), Stop> {
-    let accepted = model(alloc, case)?;
-    push_nodes(out, accepted.model())?;
-    Ok(())
+/// The printed text of the model.
+fn push_printed(alloc: Global, out: &mut String, model: &Accepted) -> Result<(), Stop> {
+    push_text(out, print_model(alloc, model)?.as_slice())
+}
+
+fn push_answer(alloc: Global, call: &str, out: &mut String, model: &Accepted) -> Result<(), Stop> {
+    match call {
+        "check" => Ok(out.push_str("accepted\n")?),
+        "nodes" => Ok(push_nodes(out, model.model())?),
+        _ => push_printed(alloc, out, model),
+    }
+}
+
+/// That the model is accepted, its sizes and what each node does, or its printed text.
+pub fn answer(alloc: Global, call: &str, case: Case, out: &mut String) -> Result<(), Stop> {
+    let model = model(alloc, case)?;
+    push_answer(alloc, call, out, &model)
 }

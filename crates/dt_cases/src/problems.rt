@@ -1,19 +1,14 @@
 //! Problems of lists.
-use crate::lists::list;
-use crate::models::model;
+ghost use Rattle.dt_model.specs.Accepted.{accepted_data};
+ghost use Rattle.dt_request.specs.Lists.{IsList};
+
 use crate::stop::Stop;
 use dt_bits::Op;
 use dt_encode::encode;
-use dt_script::Case;
+use dt_model::Accepted;
+use dt_request::Requests;
 use dt_terms::{Problem, Term};
 use std::alloc::{AllocError, Global};
-
-/// The problem of the case's list.
-fn problem(alloc: Global, case: Case) -> Result<Problem, Stop> {
-    let model = model(alloc, case)?;
-    let list = list(alloc, &model, case)?;
-    Ok(encode(alloc, &model, &list)?)
-}
 
 fn push_widths(out: &mut String, terms: &[Term]) -> Result<(), AllocError> {
     out.push_str("choices")?;
@@ -25,14 +20,23 @@ fn push_widths(out: &mut String, terms: &[Term]) -> Result<(), AllocError> {
     out.push('\n')
 }
 
-/// The widths of the choices, and how many terms there are and are required.
-pub fn encoded(alloc: Global, case: Case, out: &mut String) -> Result<(), Stop> {
-    let problem = problem(alloc, case)?;
+fn push_sizes_of(out: &mut String, problem: &Problem) -> Result<(), Stop> {
     push_widths(out, problem.terms.as_slice())?;
     let terms = problem.terms.len();
     let required = problem.required.len();
-    writeln!(out, "terms {terms}\nrequired {required}")?;
-    Ok(())
+    Ok(writeln!(out, "terms {terms}\nrequired {required}")?)
+}
+
+/// The widths of the choices, and how many terms there are and are required.
+pub fn push_sizes(
+    alloc: Global,
+    out: &mut String,
+    model: &Accepted,
+    list: &Requests,
+) -> Result<(), Stop>
+    requires { IsList (accepted_data model.now) list.now }
+{
+    push_sizes_of(out, &encode(alloc, model, list)?)
 }
 
 /// An operator as a model's text names it, with its own numbers.
@@ -76,22 +80,36 @@ fn push_term(out: &mut String, term: Term) -> Result<(), AllocError> {
     }
 }
 
-fn push_problem(out: &mut String, problem: &Problem) -> Result<(), AllocError> {
-    for (i, term) in problem.terms.as_slice().iter().enumerate() {
+fn push_all_terms(out: &mut String, terms: &[Term]) -> Result<(), AllocError> {
+    for (i, term) in terms.iter().enumerate() {
         write!(out, "{i} ")?;
         push_term(out, *term)?;
         out.push('\n')?;
     }
+    Ok(())
+}
+
+fn push_required(out: &mut String, required: &[u32]) -> Result<(), AllocError> {
     out.push_str("required")?;
-    for term in problem.required.as_slice() {
+    for term in required {
         write!(out, " {term}")?;
     }
     out.push('\n')
 }
 
+fn push_problem(out: &mut String, problem: &Problem) -> Result<(), Stop> {
+    push_all_terms(out, problem.terms.as_slice())?;
+    Ok(push_required(out, problem.required.as_slice())?)
+}
+
 /// Each term of the problem, and which are required.
-pub fn terms(alloc: Global, case: Case, out: &mut String) -> Result<(), Stop> {
-    let problem = problem(alloc, case)?;
-    push_problem(out, &problem)?;
-    Ok(())
+pub fn push_terms(
+    alloc: Global,
+    out: &mut String,
+    model: &Accepted,
+    list: &Requests,
+) -> Result<(), Stop>
+    requires { IsList (accepted_data model.now) list.now }
+{
+    push_problem(out, &encode(alloc, model, list)?)
 }

@@ -4,14 +4,11 @@ ghost use Rattle.dt_model.specs.Accepted.{accepted_data};
 ghost use Rattle.dt_model.specs.Values.{FitNames};
 ghost use Rattle.dt_image.specs.Images.{IsImage};
 
-use crate::images::image;
-use crate::models::model;
 use crate::output::push_bytes;
 use crate::stop::Stop;
 use dt_bits::TableMemory;
 use dt_image::Image;
 use dt_model::{Accepted, Node};
-use dt_script::Case;
 use dt_walk::{End, ReadMade, Run, SideTaken, Walker, access_rule_holds, context_rule_holds};
 use std::alloc::{AllocError, Global};
 
@@ -91,7 +88,13 @@ fn push_walk(
     Ok(())
 }
 
-fn push_walks(alloc: Global, out: &mut String, model: &Accepted, image: &Image) -> Result<(), Stop>
+/// The walks of the accesses of the image.
+pub fn push_walks(
+    alloc: Global,
+    out: &mut String,
+    model: &Accepted,
+    image: &Image,
+) -> Result<(), Stop>
     requires { IsImage (accepted_data model.now) image.now }
 {
     let contexts = image.contexts.as_slice();
@@ -101,13 +104,6 @@ fn push_walks(alloc: Global, out: &mut String, model: &Accepted, image: &Image) 
         push_walk(alloc, out, model, regs, inputs, &image.memory)?;
     }
     Ok(())
-}
-
-/// The walks of the accesses of the image.
-pub fn walks(alloc: Global, case: Case, out: &mut String) -> Result<(), Stop> {
-    let model = model(alloc, case)?;
-    let image = image(alloc, &model, case)?;
-    push_walks(alloc, out, &model, &image)
 }
 
 fn push_context_rules(out: &mut String, model: &Accepted, regs: &[u128]) -> Result<(), AllocError>
@@ -158,16 +154,10 @@ fn push_accesses(out: &mut String, model: &Accepted, image: &Image) -> Result<()
     Ok(())
 }
 
-fn push_rules(out: &mut String, model: &Accepted, image: &Image) -> Result<(), AllocError>
+/// The values of the rules in each context and access of the image.
+pub fn push_rules(out: &mut String, model: &Accepted, image: &Image) -> Result<(), AllocError>
     requires { IsImage (accepted_data model.now) image.now }
 {
     push_contexts(out, model, image)?;
     push_accesses(out, model, image)
-}
-
-/// The values of the rules in each context and access of the image.
-pub fn rules(alloc: Global, case: Case, out: &mut String) -> Result<(), Stop> {
-    let model = model(alloc, case)?;
-    let image = image(alloc, &model, case)?;
-    Ok(push_rules(out, &model, &image)?)
 }

@@ -38,6 +38,15 @@ fn checked(alloc: Global, problem: &Problem, log: &Log) -> Result<Verdict, Stop>
     Ok(check_log::<Pair>(alloc, problem, log)?)
 }
 
+/// Tells how large the log and the problem are, and how long the check took.
+fn tell(rt: &HostRuntime, start: &Instant, problem: &Problem, log: &Log) -> Result<(), Stop> {
+    let taken = start.elapsed(rt)?.as_millis();
+    let items = log.lines.len();
+    let terms = problem.terms.len();
+    eprintln!(rt; "checked {items} items on {terms} terms: {taken} ms")?;
+    Ok(())
+}
+
 fn print(rt: &HostRuntime, verdict: Verdict) -> Result<(), Stop> {
     match verdict {
         Verdict::Closed(splits) => println!(rt; "closed {splits}")?,
@@ -51,25 +60,30 @@ fn print(rt: &HostRuntime, verdict: Verdict) -> Result<(), Stop> {
 fn measure(rt: &HostRuntime, shown: bool, problem: &Problem, log: &Log) -> Result<(), Stop> {
     let start = Instant::now(rt)?;
     let verdict = checked(rt.alloc(), problem, log)?;
-    let taken = start.elapsed(rt)?.as_millis();
     if shown {
-        let items = log.lines.len();
-        let terms = problem.terms.len();
-        eprintln!(rt; "checked {items} items on {terms} terms: {taken} ms")?;
+        tell(rt, &start, problem, log)?;
     }
     print(rt, verdict)
 }
 
+fn refute(rt: &HostRuntime, shown: bool, size: Size, problem: &Problem) -> Result<(), Stop> {
+    let log = refutation(rt.alloc(), size)?;
+    measure(rt, shown, problem, &log)
+}
+
 fn measure_refutation(rt: &HostRuntime, shown: bool, size: Size) -> Result<(), Stop> {
     let problem = contradiction(rt.alloc(), size)?;
-    let log = refutation(rt.alloc(), size)?;
-    measure(rt, shown, &problem, &log)
+    refute(rt, shown, size, &problem)
+}
+
+fn keep(rt: &HostRuntime, shown: bool, size: Size, problem: &Problem) -> Result<(), Stop> {
+    let log = record(rt.alloc(), size)?;
+    measure(rt, shown, problem, &log)
 }
 
 fn measure_record(rt: &HostRuntime, shown: bool, size: Size) -> Result<(), Stop> {
     let problem = difference(rt.alloc(), size)?;
-    let log = record(rt.alloc(), size)?;
-    measure(rt, shown, &problem, &log)
+    keep(rt, shown, size, &problem)
 }
 
 fn number(word: Option<String>) -> u32 {

@@ -46,35 +46,50 @@ fn list(alloc: Global, model: &Accepted, text: &[u8]) -> Result<Requests, Stop>
     Ok(read_requests(alloc, model, text)?)
 }
 
+/// Whether these numbers of the choices solve the problem.
+fn solve(alloc: Global, problem: &Problem, numbers: &[u128]) -> Result<bool, Stop> {
+    let mut values = vec![in alloc; 0u128; problem.terms.len()]?;
+    Ok(problem.is_assignment(numbers) && problem.eval(numbers, &mut values))
+}
+
 /// Whether the number 0 for each choice solves the problem.
 fn zeros_solve(alloc: Global, problem: &Problem) -> Result<bool, Stop> {
     let zeros = vec![in alloc; 0u128; problem.choice_count() as usize]?;
-    let mut values = vec![in alloc; 0u128; problem.terms.len()]?;
-    Ok(problem.is_assignment(&zeros) && problem.eval(&zeros, &mut values))
+    solve(alloc, problem, zeros.as_slice())
 }
 
-/// Builds the problem of a small list, and finds the values of its terms.
-fn try_small(rt: &HostRuntime) -> Result<(), Stop> {
-    let model = model(rt.alloc(), MODEL.as_bytes())?;
-    let list = list(rt.alloc(), &model, LIST.as_bytes())?;
-    let problem = encode(rt.alloc(), &model, &list)?;
-    let solved = zeros_solve(rt.alloc(), &problem)?;
+/// Finds the values of the problem's terms.
+fn try_problem(rt: &HostRuntime, problem: &Problem) -> Result<(), Stop> {
+    let solved = zeros_solve(rt.alloc(), problem)?;
     let terms = problem.terms.len();
     println!(rt; "{terms} terms, zeros solve {solved}: every call ran")?;
     Ok(())
 }
 
-/// Builds the problem of a list, and tells how long it took.
-fn build(rt: &HostRuntime, model: &Accepted, list: &Requests) -> Result<Problem, Stop>
+fn try_list(rt: &HostRuntime, model: &Accepted, list: &Requests) -> Result<(), Stop>
     requires { IsList (accepted_data model.now) list.now }
 {
-    let start = Instant::now(rt)?;
-    let problem = encode(rt.alloc(), model, list)?;
+    try_problem(rt, &encode(rt.alloc(), model, list)?)
+}
+
+fn try_model(rt: &HostRuntime, model: &Accepted) -> Result<(), Stop> {
+    let list = list(rt.alloc(), model, LIST.as_bytes())?;
+    try_list(rt, model, &list)
+}
+
+/// Builds the problem of a small list, and finds the values of its terms.
+fn try_small(rt: &HostRuntime) -> Result<(), Stop> {
+    let model = model(rt.alloc(), MODEL.as_bytes())?;
+    try_model(rt, &model)
+}
+
+/// Tells how large the problem is, and how long it took to build it.
+fn tell_built(rt: &HostRuntime, start: &Instant, problem: &Problem) -> Result<(), Stop> {
     let taken = start.elapsed(rt)?.as_millis();
     let terms = problem.terms.len();
     let required = problem.required.len();
     eprintln!(rt; "built {terms} terms, {required} required: {taken} ms")?;
-    Ok(problem)
+    Ok(())
 }
 
 /// Finds the values of its terms, and tells how long it took.
@@ -87,12 +102,41 @@ fn evaluate(rt: &HostRuntime, problem: &Problem) -> Result<(), Stop> {
     Ok(())
 }
 
+fn measure_problem(rt: &HostRuntime, start: &Instant, problem: &Problem) -> Result<(), Stop> {
+    tell_built(rt, start, problem)?;
+    evaluate(rt, problem)
+}
+
+/// Builds the problem of a list, and tells how long that took, and how long its evaluation.
+fn measure_list(rt: &HostRuntime, model: &Accepted, list: &Requests) -> Result<(), Stop>
+    requires { IsList (accepted_data model.now) list.now }
+{
+    let start = Instant::now(rt)?;
+    let problem = encode(rt.alloc(), model, list)?;
+    measure_problem(rt, &start, &problem)
+}
+
+/// The list in a file.
+fn list_in(rt: &HostRuntime, model: &Accepted, path: &str) -> Result<Requests, Stop>
+    ensures { IfOk result (IsList (accepted_data model.now)) }
+{
+    list(rt.alloc(), model, fs::read(rt, path)?.as_slice())
+}
+
+fn measure_model(rt: &HostRuntime, model: &Accepted, list_path: &str) -> Result<(), Stop> {
+    let list = list_in(rt, model, list_path)?;
+    measure_list(rt, model, &list)
+}
+
+/// The model in a file.
+fn model_in(rt: &HostRuntime, path: &str) -> Result<Accepted, Stop> {
+    model(rt.alloc(), fs::read(rt, path)?.as_slice())
+}
+
 /// Does both with the list in a file.
 fn measure(rt: &HostRuntime, model_path: &str, list_path: &str) -> Result<(), Stop> {
-    let model = model(rt.alloc(), fs::read(rt, model_path)?.as_slice())?;
-    let list = list(rt.alloc(), &model, fs::read(rt, list_path)?.as_slice())?;
-    let problem = build(rt, &model, &list)?;
-    evaluate(rt, &problem)
+    let model = model_in(rt, model_path)?;
+    measure_model(rt, &model, list_path)
 }
 
 fn main(rt: HostRuntime) -> Result<(), Stop> {

@@ -1,7 +1,7 @@
 ghost use Rattle.std.specs.Prelude.{◌≡◌, ◌<◌, ◌≤◌, IfOk};
 ghost use Rattle.std.specs.Option.{option_map};
 ghost use Rattle.dt_lex.specs.Text.{tokens_of};
-ghost use Rattle.dt_model.specs.ModelData.{tree_of};
+ghost use Rattle.dt_model.specs.ModelData.{tree_of, apply2, apply3};
 ghost use Rattle.dt_modeltext.specs.Expr.{one_at, two_at, three_at, operands_at, applied_at, expr_at};
 ghost use Rattle.dt_modeltext.specs.Draft.{positions_of};
 
@@ -11,6 +11,26 @@ use crate::token::{after_close, atom};
 use dt_bits::{Op, arity};
 use dt_lex::next_token;
 use dt_model::Expr;
+use std::alloc::{AllocError, Global};
+
+/// An operator of two operands.
+fn of_two(alloc: Global, op: Op, a: Expr, b: Expr) -> Result<Expr, AllocError>
+    ensures { IfOk result (λ e. tree_of e ≡ apply2 op (tree_of a) (tree_of b)) }
+{
+    let a = Box::new(alloc, a)?;
+    let b = Box::new(alloc, b)?;
+    Ok(Expr::Apply2 { op, a, b })
+}
+
+/// An operator of three operands.
+fn of_three(alloc: Global, op: Op, a: Expr, b: Expr, c: Expr) -> Result<Expr, AllocError>
+    ensures { IfOk result (λ e. tree_of e ≡ apply3 op (tree_of a) (tree_of b) (tree_of c)) }
+{
+    let a = Box::new(alloc, a)?;
+    let b = Box::new(alloc, b)?;
+    let c = Box::new(alloc, c)?;
+    Ok(Expr::Apply3 { op, a, b, c })
+}
 
 /// The expression at the front, with at most `depth` operators on one way from its root, and what
 /// stands after it.
@@ -97,11 +117,7 @@ fn read_two<'t>(parser: &Parser, depth: u32, op: Op, tokens: &'t [u8]) -> Parsed
             None => Ok(None),
             Some((b, rest)) => match after_close(rest) {
                 None => Ok(None),
-                Some(rest) => {
-                    let a = Box::new(parser.alloc, a)?;
-                    let b = Box::new(parser.alloc, b)?;
-                    Ok(Some((Expr::Apply2 { op, a, b }, rest)))
-                }
+                Some(rest) => Ok(Some((of_two(parser.alloc, op, a, b)?, rest))),
             },
         },
     }
@@ -122,12 +138,7 @@ fn read_three<'t>(parser: &Parser, depth: u32, op: Op, tokens: &'t [u8]) -> Pars
                 None => Ok(None),
                 Some((c, rest)) => match after_close(rest) {
                     None => Ok(None),
-                    Some(rest) => {
-                        let a = Box::new(parser.alloc, a)?;
-                        let b = Box::new(parser.alloc, b)?;
-                        let c = Box::new(parser.alloc, c)?;
-                        Ok(Some((Expr::Apply3 { op, a, b, c }, rest)))
-                    }
+                    Some(rest) => Ok(Some((of_three(parser.alloc, op, a, b, c)?, rest))),
                 },
             },
         },

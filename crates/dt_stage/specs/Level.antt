@@ -10,29 +10,49 @@ use Rattle.dt_stage.specs.declared.levels.LastNames.{LastNames}
 
 -- ---- the tests of an entry e, each of one bit
 
+-- V isn't set, or W is and R isn't
+abbrev pub bad_flags : Tree → Tree
+bad_flags e = either (no (bit 0 e)) (both (no (bit 1 e)) (bit 2 e))
+
+-- a reserved bit, or the reserved memory type
+abbrev pub is_reserved : Tree → Tree
+is_reserved e = either (no (is (part 60 54 e) 7 0)) (is (part 62 61 e) 2 3)
+
 -- the entry isn't valid, or has a reserved bit or encoding
 abbrev pub invalid : Tree → Tree
-invalid e = either (either (no (bit 0 e)) (both (no (bit 1 e)) (bit 2 e))) (either (no (is (part 60 54 e) 7 0)) (is (part 62 61 e) 2 3))
+invalid e = either (bad_flags e) (is_reserved e)
 
 -- it is a pointer
 abbrev pub points : Tree → Tree
 points e = both (no (bit 1 e)) (no (bit 3 e))
 
+-- N or a memory type
+abbrev pub has_high : Tree → Tree
+has_high e = either (bit 63 e) (no (is (part 62 61 e) 2 0))
+
 -- a pointer with U, A, D, N or a memory type
 abbrev pub bad_pointer : Tree → Tree
-bad_pointer e = either (bit 4 e) (either (bit 6 e) (either (bit 7 e) (either (bit 63 e) (no (is (part 62 61 e) 2 0)))))
+bad_pointer e = either (bit 4 e) (either (bit 6 e) (either (bit 7 e) (has_high e)))
 
 -- A isn't set, or the access stores and D isn't set
 abbrev pub stale : Tree → Tree → Tree
 stale stores e = either (no (bit 6 e)) (both stores (no (bit 7 e)))
 
--- a leaf at level i + 1: N, no permission, a part of the page number below its level, or stale
-abbrev pub bad_upper_leaf : Tree → Tree → ℕ → Tree → Tree
-bad_upper_leaf permits stores i e = either (bit 63 e) (either (no permits) (either (no (is (part (18 + 9 * i) 10 e) (9 + 9 * i) 0)) (stale stores e)))
+-- a part of the page number below level i + 1
+abbrev pub is_misaligned : ℕ → Tree → Tree
+is_misaligned i e = no (is (part (18 + 9 * i) 10 e) (9 + 9 * i) 0)
 
--- a leaf at level 0: N for another size than 2^16 bytes, no permission, or stale
+-- a leaf at level i + 1: N, no permission, misaligned, or stale
+abbrev pub bad_upper_leaf : Tree → Tree → ℕ → Tree → Tree
+bad_upper_leaf permits stores i e = either (bit 63 e) (either (no permits) (either (is_misaligned i e) (stale stores e)))
+
+-- N for another size than 2^16 bytes
+abbrev pub bad_napot : Tree → Tree
+bad_napot e = both (bit 63 e) (no (is (part 13 10 e) 4 8))
+
+-- a leaf at level 0: N for another size, no permission, or stale
 abbrev pub bad_last_leaf : Tree → Tree → Tree → Tree
-bad_last_leaf permits stores e = either (both (bit 63 e) (no (is (part 13 10 e) 4 8))) (either (no permits) (stale stores e))
+bad_last_leaf permits stores e = either (bad_napot e) (either (no permits) (stale stores e))
 
 -- ---- a level
 
@@ -76,6 +96,21 @@ node n a = record { name = n; step = a }
 -- a test that goes one way or the other
 abbrev pub decides : Tree → ℕ → ℕ → ActData
 decides test then other = branch test then other
+
+-- the tests of the entry in variable e, before those of a leaf: at level i + 1, and at level 0, where
+-- each pointer is a fault
+abbrev pub upper_tests : UpperNames → ℕ → Place → List NodeData
+upper_tests n e p =
+    node n.invalid (branch (invalid (var e)) p.fault (p.at + 2))
+    ∷ node n.pointer (branch (points (var e)) (p.at + 3) (p.at + 4))
+    ∷ node n.bad_pointer (branch (bad_pointer (var e)) p.fault p.next)
+    ∷ []
+
+abbrev pub last_tests : LastNames → ℕ → Place → List NodeData
+last_tests n e p =
+    node n.invalid (branch (invalid (var e)) p.fault (p.at + 2))
+    ∷ node n.pointer (branch (points (var e)) p.fault (p.at + 3))
+    ∷ []
 
 -- level i + 1
 abbrev pub upper_nodes : UpperNames → ℕ → Placed → List NodeData

@@ -1,6 +1,7 @@
 // A stage of three levels.
 ghost use Rattle.std.specs.Prelude.{◌≡◌, ◌++◌, ◌<◌, length, map, IfOk, OnOk};
 ghost use Rattle.dt_model.specs.ModelData.{node_of};
+ghost use Rattle.dt_stage.specs.Level.{placed_of, upper_nodes, last_nodes};
 ghost use Rattle.dt_stage.specs.Stage.{shape_of, stage_nodes, GoesByLevels};
 
 use crate::levels::{LastNames, Level, Place, UpperNames, last_level, upper_level};
@@ -43,10 +44,57 @@ pub fn extend(nodes: &mut Vec<Node>, more: Vec<Node>) -> Result<(), NoMemory>
     Ok(())
 }
 
+// What finds a level's address, and the level, above level 0.
+fn upper_part(
+    alloc: Global,
+    fetch: Vec<Node>,
+    names: UpperNames,
+    i: u32,
+    level: Level,
+    place: Place,
+) -> Result<Vec<Node>, NoMemory>
+    requires i { i < 4 }
+    requires at { place.at < 100000 }
+    ensures { IfOk result (λ v. map node_of v.items
+        ≡ map node_of fetch.items ++ upper_nodes names i (placed_of level place)) }
+{
+    let mut nodes = fetch;
+    extend(&mut nodes, upper_level(alloc, names, i, level, place)?)?;
+    Ok(nodes)
+}
+
+// What finds a level's address, and the level, at level 0.
+fn last_part(
+    alloc: Global,
+    fetch: Vec<Node>,
+    names: LastNames,
+    level: Level,
+    place: Place,
+) -> Result<Vec<Node>, NoMemory>
+    requires { place.at < 100000 }
+    ensures { IfOk result (λ v. map node_of v.items
+        ≡ map node_of fetch.items ++ last_nodes names (placed_of level place)) }
+{
+    let mut nodes = fetch;
+    extend(&mut nodes, last_level(alloc, names, level, place)?)?;
+    Ok(nodes)
+}
+
+// Three lists of nodes after one another.
+fn in_order(first: Vec<Node>, second: Vec<Node>, third: Vec<Node>) -> Result<Vec<Node>, NoMemory>
+    ensures { IfOk result (λ v. map node_of v.items
+        ≡ (map node_of first.items ++ map node_of second.items) ++ map node_of third.items) }
+{
+    let mut nodes = first;
+    extend(&mut nodes, second)?;
+    extend(&mut nodes, third)?;
+    Ok(nodes)
+}
+
 /// The nodes of a stage, in the order of its levels: where nodes find a level's address, these, then
 /// the level's own. In every graph in which they stand, they go on at the given exits as the stage's
 /// walk by level says, with the same entries read.
-#[tactic(auto, using(crate::proofs::Appends::six_lists))]
+#[tactic(auto, using(crate::proofs::Appends::three_parts))]
 pub fn stage(alloc: Global, plan: StagePlan) -> Result<Vec<Node>, NoMemory>
     requires at { plan.at < 1000 }
     requires fetch2 { length plan.fetch2.items < 1000 }
@@ -76,20 +124,9 @@ pub fn stage(alloc: Global, plan: StagePlan) -> Result<Vec<Node>, NoMemory>
         fault: plan.fault,
         next: plan.fault,
     };
-    let mut nodes = plan.fetch2;
-    extend(
-        &mut nodes,
-        upper_level(alloc, plan.names.level2, 1, plan.level2, place2)?,
-    )?;
-    extend(&mut nodes, plan.fetch1)?;
-    extend(
-        &mut nodes,
-        upper_level(alloc, plan.names.level1, 0, plan.level1, place1)?,
-    )?;
-    extend(&mut nodes, plan.fetch0)?;
-    extend(
-        &mut nodes,
-        last_level(alloc, plan.names.level0, plan.level0, place0)?,
-    )?;
-    Ok(nodes)
+    let names = plan.names;
+    let first = upper_part(alloc, plan.fetch2, names.level2, 1, plan.level2, place2)?;
+    let second = upper_part(alloc, plan.fetch1, names.level1, 0, plan.level1, place1)?;
+    let third = last_part(alloc, plan.fetch0, names.level0, plan.level0, place0)?;
+    in_order(first, second, third)
 }

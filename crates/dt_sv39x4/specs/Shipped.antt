@@ -95,14 +95,23 @@ result_nodes r =
 abbrev pub is_bare : Tree
 is_bare = is hgatp 64 0
 
--- Bare, and then the width of the address, else the range of addresses
+-- Bare or not
+abbrev pub guest_mode : Guest → NodeData
+guest_mode g = node g.names.mode (branch is_bare (g.at + 1) (g.at + 3))
+
+-- where it is Bare, the width of the address, and the result
+abbrev pub guest_high : Guest → NodeData
+guest_high g = node g.names.high (branch (is (part 63 56 (var g.base)) 8 0) (g.at + 2) at_access_fault)
+
+abbrev pub guest_whole : Guest → NodeData
+guest_whole g = node g.names.bare (bind (g.base + 4) (part 55 0 (var g.base)) g.bare)
+
+-- where it isn't, the range of addresses
+abbrev pub guest_range : Guest → NodeData
+guest_range g = node g.names.range (branch (is (part 63 41 (var g.base)) 23 0) (g.at + 4) at_guest_fault)
+
 abbrev pub guest_head : Guest → List NodeData
-guest_head g =
-    node g.names.mode (branch is_bare (g.at + 1) (g.at + 3))
-    ∷ node g.names.high (branch (is (part 63 56 (var g.base)) 8 0) (g.at + 2) at_access_fault)
-    ∷ node g.names.bare (bind (g.base + 4) (part 55 0 (var g.base)) g.bare)
-    ∷ node g.names.range (branch (is (part 63 41 (var g.base)) 23 0) (g.at + 4) at_guest_fault)
-    ∷ []
+guest_head g = guest_mode g ∷ guest_high g ∷ guest_whole g ∷ guest_range g ∷ []
 
 -- the root's block has 2^14 bytes and an index of 11 bits
 abbrev pub guest_stage : Guest → Shape
@@ -209,12 +218,18 @@ abbrev pub one_is : ℕ → Tree
 one_is page = either (is (var 23) 5 page) (is (var 24) 5 page)
 
 -- the smaller page
+abbrev pub no_page : NodeData
+no_page = acts (codes "no_page") (branch (both (is (var 23) 5 0) (is (var 24) 5 0)) 131 128)
+
+abbrev pub page_chosen : List ℕ → ℕ → ℕ → ℕ → NodeData
+page_chosen name page then_to other = acts name (branch (one_is page) then_to other)
+
 abbrev pub choice : List NodeData
 choice =
-    acts (codes "no_page") (branch (both (is (var 23) 5 0) (is (var 24) 5 0)) 131 128)
-    ∷ acts (codes "page12") (branch (one_is 12) 135 129)
-    ∷ acts (codes "page16") (branch (one_is 16) 134 130)
-    ∷ acts (codes "page21") (branch (one_is 21) 133 132)
+    no_page
+    ∷ page_chosen (codes "page12") 12 135 129
+    ∷ page_chosen (codes "page16") 16 134 130
+    ∷ page_chosen (codes "page21") 21 133 132
     ∷ []
 
 abbrev pub result : List ℕ → ℕ → NodeData

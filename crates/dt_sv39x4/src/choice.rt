@@ -1,9 +1,10 @@
 // The pages of both stages, the choice of the smaller, and the results.
-ghost use Rattle.std.specs.Prelude.{◌≡◌, map, IfOk, true};
+ghost use Rattle.std.specs.Prelude.{◌≡◌, map, IfOk, true, take, drop};
 ghost use Rattle.dt_lex.specs.Names.{spells_name};
 ghost use Rattle.dt_model.specs.ModelData.{tree_of, node_of};
-ghost use Rattle.dt_sv39x4.specs.Shipped.{page_is as page_node, virtual_pages as shipped_virtual_pages, guest_pages as shipped_guest_pages, one_is as one_of, choice as shipped_choice, result as result_node, results as shipped_results};
+ghost use Rattle.dt_sv39x4.specs.Shipped.{page_is as page_node, virtual_pages as shipped_virtual_pages, guest_pages as shipped_guest_pages, one_is as one_of, no_page as no_page_node, page_chosen, choice as shipped_choice, result as result_node, results as shipped_results};
 
+use crate::guest::chained;
 use crate::positions::{CHOICE, DONE, FINAL};
 use dt_bits::NoMemory;
 use dt_model::{Act, Expr, Node};
@@ -64,19 +65,54 @@ fn one_is(alloc: Global, page: u128) -> Result<Expr, NoMemory>
     either(alloc, of_first, of_second)
 }
 
-/// The choice of the smaller page.
-#[tactic(auto, using(crate::proofs::Joins::joins))]
-pub fn choice(alloc: Global) -> Result<Vec<Node>, NoMemory>
-    ensures { IfOk result (λ v. map node_of v.items ≡ shipped_choice) }
+// Neither stage has a page.
+fn no_page(alloc: Global) -> Result<Node, NoMemory>
+    ensures { IfOk result (λ n. node_of n ≡ no_page_node) }
 {
     let no_first = is(alloc, Expr::Var(V_PAGE), 5, 0)?;
     let no_second = is(alloc, Expr::Var(G_PAGE), 5, 0)?;
     let none = both(alloc, no_first, no_second)?;
-    let no_page = decides(b"no_page", none, DONE, CHOICE + 1);
-    let page12 = decides(b"page12", one_is(alloc, 12)?, DONE + 4, CHOICE + 2);
-    let page16 = decides(b"page16", one_is(alloc, 16)?, DONE + 3, CHOICE + 3);
-    let page21 = decides(b"page21", one_is(alloc, 21)?, DONE + 2, DONE + 1);
-    Ok(vec![in alloc; no_page, page12, page16, page21]?)
+    Ok(decides(b"no_page", none, DONE, CHOICE + 1))
+}
+
+// The smaller page is this one, as no smaller one is.
+fn chosen(
+    alloc: Global,
+    name: &[u8],
+    page: u128,
+    then_to: u32,
+    other: u32,
+) -> Result<Node, NoMemory>
+    requires { spells_name name.now ≡ true }
+    ensures { IfOk result (λ n. node_of n ≡ page_chosen name.now page then_to other) }
+{
+    let is_chosen = one_is(alloc, page)?;
+    Ok(decides(name, is_chosen, then_to, other))
+}
+
+#[tactic(auto, using(crate::proofs::Joins::joins))]
+fn first_choices(alloc: Global) -> Result<Vec<Node>, NoMemory>
+    ensures { IfOk result (λ v. map node_of v.items ≡ take 2 shipped_choice) }
+{
+    let no_page = no_page(alloc)?;
+    let page12 = chosen(alloc, b"page12", 12, DONE + 4, CHOICE + 2)?;
+    Ok(vec![in alloc; no_page, page12]?)
+}
+
+#[tactic(auto, using(crate::proofs::Joins::joins))]
+fn last_choices(alloc: Global) -> Result<Vec<Node>, NoMemory>
+    ensures { IfOk result (λ v. map node_of v.items ≡ drop 2 shipped_choice) }
+{
+    let page16 = chosen(alloc, b"page16", 16, DONE + 3, CHOICE + 3)?;
+    let page21 = chosen(alloc, b"page21", 21, DONE + 2, DONE + 1)?;
+    Ok(vec![in alloc; page16, page21]?)
+}
+
+/// The choice of the smaller page.
+pub fn choice(alloc: Global) -> Result<Vec<Node>, NoMemory>
+    ensures { IfOk result (λ v. map node_of v.items ≡ shipped_choice) }
+{
+    chained(first_choices(alloc)?, last_choices(alloc)?)
 }
 
 fn result(name: &[u8], page: u32) -> Node

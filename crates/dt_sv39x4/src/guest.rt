@@ -1,11 +1,11 @@
 // A G-stage.
-ghost use Rattle.std.specs.Prelude.{◌≡◌, ◌+◌, ◌++◌, ◌<◌, map, IfOk};
+ghost use Rattle.std.specs.Prelude.{◌≡◌, ◌+◌, ◌++◌, ◌<◌, [], ◌∷◌, map, IfOk};
 ghost use Rattle.dt_model.specs.ModelData.{tree_of, node_of, var};
 ghost use Rattle.dt_stage.specs.Level.{level_of};
 ghost use Rattle.dt_stage.specs.Stage.{shape_of, stage_nodes, GoesByLevels};
 ghost use Rattle.dt_stage.specs.Trees.{part as slice};
 ghost use Rattle.dt_sv39.specs.Shipped.{entry_at as entry_of};
-ghost use Rattle.dt_sv39x4.specs.Shipped.{hgatp as root, is_bare as bare, guest_head, guest_stage as shipped_stage, guest_nodes as shipped_nodes};
+ghost use Rattle.dt_sv39x4.specs.Shipped.{hgatp as root, is_bare as bare, guest_mode, guest_high, guest_whole, guest_range, guest_head, guest_stage as shipped_stage, guest_nodes as shipped_nodes};
 
 use crate::permission::{Permission, level};
 use crate::positions::{ACCESS_FAULT, GUEST_FAULT};
@@ -60,21 +60,68 @@ fn is_bare(alloc: Global) -> Result<Expr, NoMemory>
     is(alloc, Expr::Reg(HGATP), 64, 0)
 }
 
-// What is decided before the first table.
+fn mode(alloc: Global, g: Guest) -> Result<Node, NoMemory>
+    requires { g.at < 1000 }
+    ensures { IfOk result (λ n. node_of n ≡ guest_mode g) }
+{
+    let bare = is_bare(alloc)?;
+    Ok(decision(g.names.mode, bare, g.at + 1, g.at + 3))
+}
+
+fn high(alloc: Global, g: Guest) -> Result<Node, NoMemory>
+    requires { g.at < 1000 }
+    ensures { IfOk result (λ n. node_of n ≡ guest_high g) }
+{
+    let top = is(alloc, part(alloc, 63, 56, Expr::Var(g.base))?, 8, 0)?;
+    Ok(decision(g.names.high, top, g.at + 2, ACCESS_FAULT))
+}
+
+fn whole(alloc: Global, g: Guest) -> Result<Node, NoMemory>
+    requires { g.base < 1000 }
+    ensures { IfOk result (λ n. node_of n ≡ guest_whole g) }
+{
+    let whole = part(alloc, 55, 0, Expr::Var(g.base))?;
+    Ok(lets(g.names.bare, g.base + 4, whole, g.bare))
+}
+
+fn range(alloc: Global, g: Guest) -> Result<Node, NoMemory>
+    requires { g.at < 1000 }
+    ensures { IfOk result (λ n. node_of n ≡ guest_range g) }
+{
+    let small = is(alloc, part(alloc, 63, 41, Expr::Var(g.base))?, 23, 0)?;
+    Ok(decision(g.names.range, small, g.at + 4, GUEST_FAULT))
+}
+
+// Bare or not, and the width of an address where it is.
 #[tactic(auto, using(crate::proofs::Joins::joins))]
+fn modes(alloc: Global, g: Guest) -> Result<Vec<Node>, NoMemory>
+    requires { g.at < 1000 }
+    ensures { IfOk result (λ v. map node_of v.items ≡ guest_mode g ∷ guest_high g ∷ []) }
+{
+    let mode = mode(alloc, g)?;
+    let high = high(alloc, g)?;
+    Ok(vec![in alloc; mode, high]?)
+}
+
+// The result where it is Bare, and the range of addresses where it isn't.
+#[tactic(auto, using(crate::proofs::Joins::joins))]
+fn addresses(alloc: Global, g: Guest) -> Result<Vec<Node>, NoMemory>
+    requires at { g.at < 1000 }
+    requires base { g.base < 1000 }
+    ensures { IfOk result (λ v. map node_of v.items ≡ guest_whole g ∷ guest_range g ∷ []) }
+{
+    let whole = whole(alloc, g)?;
+    let range = range(alloc, g)?;
+    Ok(vec![in alloc; whole, range]?)
+}
+
+// What is decided before the first table.
 fn head(alloc: Global, g: Guest) -> Result<Vec<Node>, NoMemory>
     requires at { g.at < 1000 }
     requires base { g.base < 1000 }
     ensures { IfOk result (λ v. map node_of v.items ≡ guest_head g) }
 {
-    let mode = decision(g.names.mode, is_bare(alloc)?, g.at + 1, g.at + 3);
-    let top = is(alloc, part(alloc, 63, 56, Expr::Var(g.base))?, 8, 0)?;
-    let high = decision(g.names.high, top, g.at + 2, ACCESS_FAULT);
-    let whole = part(alloc, 55, 0, Expr::Var(g.base))?;
-    let bare = lets(g.names.bare, g.base + 4, whole, g.bare);
-    let small = is(alloc, part(alloc, 63, 41, Expr::Var(g.base))?, 23, 0)?;
-    let range = decision(g.names.range, small, g.at + 4, GUEST_FAULT);
-    Ok(vec![in alloc; mode, high, bare, range]?)
+    chained(modes(alloc, g)?, addresses(alloc, g)?)
 }
 
 // The root's table has 2^11 entries, in a block of 2^14 bytes.

@@ -8,13 +8,14 @@
 
 mod stop;
 
-ghost use Rattle.std.specs.Prelude.{◌≡◌};
+ghost use Rattle.std.specs.Prelude.{◌≡◌, IfOk};
 ghost use Rattle.dt_model.specs.Accepted.{accepted_data};
 ghost use Rattle.dt_image.specs.Images.{IsImage};
 ghost use Rattle.dt_walk.specs.Walkers.{walker_data};
 
 use crate::stop::Stop;
 use dt_image::{Image, read_image};
+use dt_model::Accepted;
 use dt_sv39::sv39_model;
 use dt_walk::Walker;
 use std::time::Instant;
@@ -63,21 +64,72 @@ fn walk_rounds(walker: &mut Walker<'_>, image: &Image, rounds: u32) -> Counts
     counts
 }
 
-/// Walks the image of a file so many times, and tells how long it took.
-fn measure(rt: &HostRuntime, path: &str, rounds: u32) -> Result<(), Stop> {
-    let text = fs::read(rt, path)?;
+/// Prints what was walked, and tells how long it took.
+fn tell(rt: &HostRuntime, start: &Instant, counts: Counts) -> Result<(), Stop> {
+    let taken = start.elapsed(rt)?.as_millis();
+    eprintln!(rt; "{taken} ms")?;
+    let Counts { walks, reads } = counts;
+    println!(rt; "{walks} walks, {reads} reads")?;
+    Ok(())
+}
+
+/// Walks the image so many times, and tells how long it took.
+fn measure_walks(
+    rt: &HostRuntime,
+    walker: &mut Walker<'_>,
+    image: &Image,
+    rounds: u32,
+) -> Result<(), Stop>
+    requires { IsImage (walker_data walker.old) image.now }
+{
+    let start = Instant::now(rt)?;
+    let counts = walk_rounds(walker, image, rounds);
+    tell(rt, &start, counts)
+}
+
+fn measure_image(
+    rt: &HostRuntime,
+    model: &Accepted,
+    image: &Image,
+    rounds: u32,
+) -> Result<(), Stop>
+    requires { IsImage (accepted_data model.now) image.now }
+{
+    let mut walker = Walker::new(rt.alloc(), model)?;
+    measure_walks(rt, &mut walker, image, rounds)
+}
+
+/// The image that a text spells.
+fn image(rt: &HostRuntime, model: &Accepted, text: &[u8]) -> Result<Image, Stop>
+    ensures { IfOk result (IsImage (accepted_data model.now)) }
+{
     if text.len() >= u32::MAX as usize {
         return Err(Stop::Long);
     }
+    Ok(read_image(rt.alloc(), model, text)?)
+}
+
+/// The image in a file.
+fn image_in(rt: &HostRuntime, model: &Accepted, path: &str) -> Result<Image, Stop>
+    ensures { IfOk result (IsImage (accepted_data model.now)) }
+{
+    image(rt, model, fs::read(rt, path)?.as_slice())
+}
+
+fn measure_model(
+    rt: &HostRuntime,
+    model: &Accepted,
+    path: &str,
+    rounds: u32,
+) -> Result<(), Stop> {
+    let image = image_in(rt, model, path)?;
+    measure_image(rt, model, &image, rounds)
+}
+
+/// Walks the image of a file so many times, and tells how long it took.
+fn measure(rt: &HostRuntime, path: &str, rounds: u32) -> Result<(), Stop> {
     let model = sv39_model(rt.alloc())?;
-    let image = read_image(rt.alloc(), &model, text.as_slice())?;
-    let mut walker = Walker::new(rt.alloc(), &model)?;
-    let start = Instant::now(rt)?;
-    let Counts { walks, reads } = walk_rounds(&mut walker, &image, rounds);
-    let taken = start.elapsed(rt)?.as_millis();
-    eprintln!(rt; "{taken} ms")?;
-    println!(rt; "{walks} walks, {reads} reads")?;
-    Ok(())
+    measure_model(rt, &model, path, rounds)
 }
 
 fn main(rt: HostRuntime) -> Result<(), Stop> {
