@@ -120,7 +120,7 @@ fn evaluate(rt: &HostRuntime, shown: bool, count: u32, problem: &Problem) -> Res
 }
 
 /// Prints what a term and a cell take, and what the problem answers to one term more.
-fn tell_sizes(rt: &HostRuntime, mut problem: Problem, solved: bool) -> Result<(), Stop> {
+fn tell_sizes(rt: &HostRuntime, problem: &mut Problem, solved: bool) -> Result<(), Stop> {
     let full = problem.add_choice(Width(1));
     let term = size_of::<Term>();
     let cell = size_of::<Pair>();
@@ -128,25 +128,58 @@ fn tell_sizes(rt: &HostRuntime, mut problem: Problem, solved: bool) -> Result<()
     Ok(())
 }
 
-/// Does all the work on a problem of this many terms.
-fn measure(rt: &HostRuntime, shown: bool, count: u32) -> Result<(), Stop> {
-    let problem = build(rt, shown, count)?;
-    let mut cells = root(rt, shown, count, &problem)?;
-    watch(rt, shown, count, &problem)?;
-    keep(rt, shown, count, &problem, &mut cells)?;
-    sweep(rt, shown, &problem, &mut cells)?;
-    let solved = evaluate(rt, shown, count, &problem)?;
+/// Does the work on the problem and its root cells, and says whether 0 for each choice solves it.
+fn measure_cells(
+    rt: &HostRuntime,
+    shown: bool,
+    count: u32,
+    problem: &Problem,
+    cells: &mut Cells<Pair>,
+) -> Result<bool, Stop>
+    requires { AreCells pair_ops problem.now.terms cells.old }
+{
+    watch(rt, shown, count, problem)?;
+    keep(rt, shown, count, problem, cells)?;
+    sweep(rt, shown, problem, cells)?;
+    evaluate(rt, shown, count, problem)
+}
+
+/// Does the work on the problem, and says whether 0 for each choice solves it.
+fn measure_root(rt: &HostRuntime, shown: bool, count: u32, problem: &Problem) -> Result<bool, Stop> {
+    let mut cells = root(rt, shown, count, problem)?;
+    measure_cells(rt, shown, count, problem, &mut cells)
+}
+
+fn measure_problem(
+    rt: &HostRuntime,
+    shown: bool,
+    count: u32,
+    problem: &mut Problem,
+) -> Result<(), Stop> {
+    let solved = measure_root(rt, shown, count, problem)?;
     if shown {
         tell_sizes(rt, problem, solved)?;
     }
     Ok(())
 }
 
-/// Does the moves so many times, each time on root cells, and prints what came of them.
-fn repeat(rt: &HostRuntime, problem: &Problem, moves: &[Move], rounds: u32) -> Result<(), Stop>
-    requires { All (IsMove problem.now.terms) moves.now }
+/// Does all the work on a problem of this many terms.
+fn measure(rt: &HostRuntime, shown: bool, count: u32) -> Result<(), Stop> {
+    let mut problem = build(rt, shown, count)?;
+    measure_problem(rt, shown, count, &mut problem)
+}
+
+/// Does the moves so many times, each time on a copy of these cells, and prints what came of them.
+fn repeat_from(
+    rt: &HostRuntime,
+    problem: &Problem,
+    root: &Cells<Pair>,
+    moves: &[Move],
+    rounds: u32,
+) -> Result<(), Stop>
+    requires cells { AreCells pair_ops problem.now.terms root.now }
+    requires moves { All (IsMove problem.now.terms) moves.now }
 {
-    let root: Cells<Pair> = Cells::root(rt.alloc(), problem)?;
     let mut cells = root.copy(rt.alloc())?;
     let mut counts = Counts::none();
     for _round in 0..rounds {
@@ -156,12 +189,30 @@ fn repeat(rt: &HostRuntime, problem: &Problem, moves: &[Move], rounds: u32) -> R
     print(rt, counts, digest(problem, &cells))
 }
 
+/// Does the moves so many times, each time on root cells, and prints what came of them.
+fn repeat(rt: &HostRuntime, problem: &Problem, moves: &[Move], rounds: u32) -> Result<(), Stop>
+    requires { All (IsMove problem.now.terms) moves.now }
+{
+    let root: Cells<Pair> = Cells::root(rt.alloc(), problem)?;
+    repeat_from(rt, problem, &root, moves, rounds)
+}
+
+/// Does the moves on this problem that a trace tells.
+fn do_moves(rt: &HostRuntime, problem: &Problem, text: &str, rounds: u32) -> Result<(), Stop> {
+    let moves = moves_of(rt.alloc(), problem, text)?;
+    repeat(rt, problem, moves.as_slice(), rounds)
+}
+
+/// Does the moves of a trace.
+fn do_trace(rt: &HostRuntime, text: &str, rounds: u32) -> Result<(), Stop> {
+    let problem = problem_of(rt.alloc(), text)?;
+    do_moves(rt, &problem, text, rounds)
+}
+
 /// Does the moves of the trace in a file, so many times, and prints what came of them.
 fn measure_trace(rt: &HostRuntime, path: &str, rounds: u32) -> Result<(), Stop> {
     let text = fs::read_to_string(rt, path)?;
-    let problem = problem_of(rt.alloc(), text.as_str())?;
-    let moves = moves_of(rt.alloc(), &problem, text.as_str())?;
-    repeat(rt, &problem, moves.as_slice(), rounds)
+    do_trace(rt, text.as_str(), rounds)
 }
 
 /// Prints how many moves changed a cell in which way, and the digest of the last cells.

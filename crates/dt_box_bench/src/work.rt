@@ -66,9 +66,14 @@ pub fn kept(
     Ok(trail.len())
 }
 
+/// Whether these numbers of the choices solve the problem.
+fn solve(alloc: Global, problem: &Problem, numbers: &[u128]) -> Result<bool, Stop> {
+    let mut out = vec![in alloc; 0u128; problem.terms.len()]?;
+    Ok(problem.is_assignment(numbers) && problem.eval(numbers, &mut out))
+}
+
 /// Whether 0 for each choice solves the problem.
 pub fn evaluated(alloc: Global, problem: &Problem) -> Result<bool, Stop> {
-    let values = vec![in alloc; 0u128; problem.choice_count() as usize]?;
-    let mut out = vec![in alloc; 0u128; problem.terms.len()]?;
-    Ok(problem.is_assignment(&values) && problem.eval(&values, &mut out))
+    let zeros = vec![in alloc; 0u128; problem.choice_count() as usize]?;
+    solve(alloc, problem, zeros.as_slice())
 }

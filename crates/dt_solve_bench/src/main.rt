@@ -24,6 +24,7 @@ use crate::stop::Stop;
 use dt_log::{Line, Log};
 use dt_sets::Triple;
 use dt_solve::{Outcome, search};
+use dt_terms::Problem;
 use std::env;
 use std::time::Instant;
 
@@ -116,17 +117,28 @@ fn print(rt: &HostRuntime, terms: usize, tried: u64, outcome: &Outcome) -> Resul
     }
 }
 
-/// Searches a problem that is drawn, and prints how that ended.
-fn measure(rt: &HostRuntime, plan: Plan, size: Size, seed: u64, turned: bool) -> Result<(), Stop> {
-    let problem = drawn(rt.alloc(), size, seed, turned)?;
+/// Tells how long a search took.
+fn tell(rt: &HostRuntime, start: &Instant) -> Result<(), Stop> {
+    let taken = start.elapsed(rt)?.as_millis();
+    eprintln!(rt; "{taken} ms")?;
+    Ok(())
+}
+
+/// Searches a problem, and prints how that ended.
+fn measure_problem(rt: &HostRuntime, plan: Plan, problem: &Problem) -> Result<(), Stop> {
     let mut counting = Counting { asked: 0 };
     let start = Instant::now(rt)?;
-    let outcome = search::<Triple, Counting>(rt.alloc(), &problem, plan.limit, &mut counting)?;
-    let taken = start.elapsed(rt)?.as_millis();
+    let outcome = search::<Triple, Counting>(rt.alloc(), problem, plan.limit, &mut counting)?;
     if plan.timed {
-        eprintln!(rt; "{taken} ms")?;
+        tell(rt, &start)?;
     }
     print(rt, problem.terms.len(), counting.asked, &outcome)
+}
+
+/// Searches a problem that is drawn.
+fn measure(rt: &HostRuntime, plan: Plan, size: Size, seed: u64, turned: bool) -> Result<(), Stop> {
+    let problem = drawn(rt.alloc(), size, seed, turned)?;
+    measure_problem(rt, plan, &problem)
 }
 
 /// Searches the problems of a size.

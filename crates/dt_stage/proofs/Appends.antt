@@ -28,9 +28,9 @@ around_nodes l m n first last u h p q =
     ap (map node_of) q ∙ map_append m (last ∷ []) ∙ ap (λ (k : List NodeData). k ++ node_of last ∷ []) (p ∙ ap (λ (k : List Node). map node_of k ++ u) h)
 
 -- three parts after one another, each of two lists
-pub three_parts : (f x g y h z a b c n : List NodeData) → a ≡ f ++ x → b ≡ g ++ y → c ≡ h ++ z → n ≡ (a ++ b) ++ c → n ≡ f ++ (x ++ (g ++ (y ++ (h ++ z))))
-three_parts f x g y h z a b c n p q r s =
-    s ∙ ap (λ (l : List NodeData). (l ++ b) ++ c) p ∙ ap (λ (l : List NodeData). ((f ++ x) ++ l) ++ c) q ∙ ap (λ (l : List NodeData). ((f ++ x) ++ (g ++ y)) ++ l) r
+pub three_parts : (f x g y h z a b c m n : List NodeData) → a ≡ f ++ x → b ≡ g ++ y → c ≡ h ++ z → m ≡ a ++ b → n ≡ m ++ c → n ≡ f ++ (x ++ (g ++ (y ++ (h ++ z))))
+three_parts f x g y h z a b c m n p q r s t =
+    t ∙ ap (λ (l : List NodeData). l ++ c) s ∙ ap (λ (l : List NodeData). (l ++ b) ++ c) p ∙ ap (λ (l : List NodeData). ((f ++ x) ++ l) ++ c) q ∙ ap (λ (l : List NodeData). ((f ++ x) ++ (g ++ y)) ++ l) r
     ∙ append_assoc (f ++ x) (g ++ y) (h ++ z) ∙ append_assoc f x ((g ++ y) ++ (h ++ z)) ∙ ap (λ (l : List NodeData). f ++ (x ++ l)) (append_assoc g y (h ++ z))
 
 pub five_lists : (a b c d e n1 n2 n3 n4 x y z u v : List NodeData) → n1 ≡ a ++ b → n2 ≡ n1 ++ c → n3 ≡ n2 ++ d → n4 ≡ n3 ++ e → a ≡ x → b ≡ y → c ≡ z → d ≡ u → e ≡ v → n4 ≡ x ++ (y ++ (z ++ (u ++ v)))

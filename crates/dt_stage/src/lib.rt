@@ -13,5 +13,5 @@ mod stages;
 mod trees;
 
 pub use levels::{LastNames, Level, Place, UpperNames, decision, last_level, node, upper_level};
-pub use stages::{StageNames, StagePlan, extend, stage};
+pub use stages::{StageNames, StagePlan, chained, extend, stage};
 pub use trees::{bit, both, choose, either, is, joined, no, part};

@@ -44,6 +44,15 @@ pub fn extend(nodes: &mut Vec<Node>, more: Vec<Node>) -> Result<(), NoMemory>
     Ok(())
 }
 
+/// Some nodes, and then more.
+pub fn chained(nodes: Vec<Node>, more: Vec<Node>) -> Result<Vec<Node>, NoMemory>
+    ensures { IfOk result (λ v. map node_of v.items ≡ map node_of nodes.items ++ map node_of more.items) }
+{
+    let mut nodes = nodes;
+    extend(&mut nodes, more)?;
+    Ok(nodes)
+}
+
 // What finds a level's address, and the level, above level 0.
 fn upper_part(
     alloc: Global,
@@ -58,9 +67,7 @@ fn upper_part(
     ensures { IfOk result (λ v. map node_of v.items
         ≡ map node_of fetch.items ++ upper_nodes names i (placed_of level place)) }
 {
-    let mut nodes = fetch;
-    extend(&mut nodes, upper_level(alloc, names, i, level, place)?)?;
-    Ok(nodes)
+    chained(fetch, upper_level(alloc, names, i, level, place)?)
 }
 
 // What finds a level's address, and the level, at level 0.
@@ -75,20 +82,7 @@ fn last_part(
     ensures { IfOk result (λ v. map node_of v.items
         ≡ map node_of fetch.items ++ last_nodes names (placed_of level place)) }
 {
-    let mut nodes = fetch;
-    extend(&mut nodes, last_level(alloc, names, level, place)?)?;
-    Ok(nodes)
-}
-
-// Three lists of nodes after one another.
-fn in_order(first: Vec<Node>, second: Vec<Node>, third: Vec<Node>) -> Result<Vec<Node>, NoMemory>
-    ensures { IfOk result (λ v. map node_of v.items
-        ≡ (map node_of first.items ++ map node_of second.items) ++ map node_of third.items) }
-{
-    let mut nodes = first;
-    extend(&mut nodes, second)?;
-    extend(&mut nodes, third)?;
-    Ok(nodes)
+    chained(fetch, last_level(alloc, names, level, place)?)
 }
 
 /// The nodes of a stage, in the order of its levels: where nodes find a level's address, these, then
@@ -128,5 +122,7 @@ pub fn stage(alloc: Global, plan: StagePlan) -> Result<Vec<Node>, NoMemory>
     let first = upper_part(alloc, plan.fetch2, names.level2, 1, plan.level2, place2)?;
     let second = upper_part(alloc, plan.fetch1, names.level1, 0, plan.level1, place1)?;
     let third = last_part(alloc, plan.fetch0, names.level0, plan.level0, place0)?;
-    in_order(first, second, third)
+    let upper = chained(first, second)?;
+    let nodes = chained(upper, third)?;
+    Ok(nodes)
 }

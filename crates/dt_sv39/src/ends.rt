@@ -1,5 +1,5 @@
 // The nodes before the tables, the results and the faults.
-ghost use Rattle.std.specs.Prelude.{◌≡◌, ◌<◌, map, IfOk, true};
+ghost use Rattle.std.specs.Prelude.{◌≡◌, ◌<◌, map, IfOk, true, take, drop};
 ghost use Rattle.dt_lex.specs.Names.{spells_name};
 ghost use Rattle.dt_model.specs.ModelData.{tree_of, act_of, node_of, branch};
 ghost use Rattle.dt_sv39.specs.Shipped.{acts as named_node, head as shipped_head, result as shipped_result, results as shipped_results, by_kind as shipped_by_kind, page_faults as shipped_page_faults, access_faults as shipped_access_faults};
@@ -9,7 +9,7 @@ use crate::positions::{ACCESS_FAULT, D12, D16, DBARE, PAGE_FAULT, STAGE};
 use dt_bits::NoMemory;
 use dt_lex::Name;
 use dt_model::{Act, Expr, Node};
-use dt_stage::{bit, is, joined, part};
+use dt_stage::{bit, chained, is, joined, part};
 use std::alloc::Global;
 
 /// A node of this name.
@@ -38,18 +38,33 @@ pub fn decides(name: &[u8], test: Expr, then_to: u32, other: u32) -> Node
     )
 }
 
-/// What is decided before the first table: Bare, and the sign extension of the address.
+// Bare or not, and the width of an address where it is.
 #[tactic(auto, using(crate::proofs::Joins::joins))]
-pub fn head(alloc: Global) -> Result<Vec<Node>, NoMemory>
-    ensures { IfOk result (λ v. map node_of v.items ≡ shipped_head) }
+fn modes(alloc: Global) -> Result<Vec<Node>, NoMemory>
+    ensures { IfOk result (λ v. map node_of v.items ≡ take 2 shipped_head) }
 {
     let mode = decides(b"mode", is_bare(alloc)?, 1, 3);
     let high = is(alloc, va(alloc, 63, 56)?, 8, 0)?;
     let bare = decides(b"bare", high, DBARE, ACCESS_FAULT);
+    Ok(vec![in alloc; mode, bare]?)
+}
+
+// The result where it is Bare, and the sign extension of the address where it isn't.
+#[tactic(auto, using(crate::proofs::Joins::joins))]
+fn addresses(alloc: Global) -> Result<Vec<Node>, NoMemory>
+    ensures { IfOk result (λ v. map node_of v.items ≡ drop 2 shipped_head) }
+{
     let pa = va(alloc, 55, 0)?;
     let dbare = acts(b"dbare", Act::Done { pa, page: 12 });
     let sign = decides(b"sign", is_sign_extended(alloc)?, STAGE, PAGE_FAULT);
-    Ok(vec![in alloc; mode, bare, dbare, sign]?)
+    Ok(vec![in alloc; dbare, sign]?)
+}
+
+/// What is decided before the first table: Bare, and the sign extension of the address.
+pub fn head(alloc: Global) -> Result<Vec<Node>, NoMemory>
+    ensures { IfOk result (λ v. map node_of v.items ≡ shipped_head) }
+{
+    chained(modes(alloc)?, addresses(alloc)?)
 }
 
 // A result: the page number of entry `x` from its bit `lo` on, above the address's bits `low` to 0.
@@ -69,17 +84,32 @@ fn result(
     Ok(acts(name, Act::Done { pa, page }))
 }
 
-/// The results of leaves, and the test of N at level 0.
+// The results of leaves above level 0.
 #[tactic(auto, using(crate::proofs::Joins::joins))]
-pub fn results(alloc: Global) -> Result<Vec<Node>, NoMemory>
-    ensures { IfOk result (λ v. map node_of v.items ≡ shipped_results) }
+fn upper_results(alloc: Global) -> Result<Vec<Node>, NoMemory>
+    ensures { IfOk result (λ v. map node_of v.items ≡ take 2 shipped_results) }
 {
     let d30 = result(alloc, b"d30", 28, 0, 29, 30)?;
     let d21 = result(alloc, b"d21", 19, 1, 20, 21)?;
+    Ok(vec![in alloc; d30, d21]?)
+}
+
+// The test of N at level 0, and the results there.
+#[tactic(auto, using(crate::proofs::Joins::joins))]
+fn last_results(alloc: Global) -> Result<Vec<Node>, NoMemory>
+    ensures { IfOk result (λ v. map node_of v.items ≡ drop 2 shipped_results) }
+{
     let napot = decides(b"napot", bit(alloc, 63, Expr::Var(2))?, D16, D12);
     let d16 = result(alloc, b"d16", 14, 2, 15, 16)?;
     let d12 = result(alloc, b"d12", 10, 2, 11, 12)?;
-    Ok(vec![in alloc; d30, d21, napot, d16, d12]?)
+    Ok(vec![in alloc; napot, d16, d12]?)
+}
+
+/// The results of leaves, and the test of N at level 0.
+pub fn results(alloc: Global) -> Result<Vec<Node>, NoMemory>
+    ensures { IfOk result (λ v. map node_of v.items ≡ shipped_results) }
+{
+    chained(upper_results(alloc)?, last_results(alloc)?)
 }
 
 /// The names of faults by kind: both tests, and the three faults.

@@ -4,11 +4,10 @@ ghost use Rattle.dt_lex.specs.Names.{spells_name};
 ghost use Rattle.dt_model.specs.ModelData.{tree_of, node_of};
 ghost use Rattle.dt_sv39x4.specs.Shipped.{page_is as page_node, virtual_pages as shipped_virtual_pages, guest_pages as shipped_guest_pages, one_is as one_of, no_page as no_page_node, page_chosen, choice as shipped_choice, result as result_node, results as shipped_results};
 
-use crate::guest::chained;
 use crate::positions::{CHOICE, DONE, FINAL};
 use dt_bits::NoMemory;
 use dt_model::{Act, Expr, Node};
-use dt_stage::{both, either, is};
+use dt_stage::{both, chained, either, is};
 use dt_sv39::{acts, decides};
 use std::alloc::Global;
 

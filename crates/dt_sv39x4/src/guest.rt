@@ -13,7 +13,7 @@ use crate::results::{Address, Exits, ResultNames, Results, lets, result_nodes};
 use dt_bits::NoMemory;
 use dt_lex::Name;
 use dt_model::{Expr, Node};
-use dt_stage::{Level, StageNames, StagePlan, decision, extend, is, joined, part, stage};
+use dt_stage::{Level, StageNames, StagePlan, chained, decision, is, joined, part, stage};
 use dt_sv39::entry_at;
 use std::alloc::Global;
 
@@ -42,15 +42,6 @@ pub struct Guest {
     pub base: u32,
     pub bare: u32,
     pub exits: Exits,
-}
-
-/// Some nodes, and then more.
-pub fn chained(nodes: Vec<Node>, more: Vec<Node>) -> Result<Vec<Node>, NoMemory>
-    ensures { IfOk result (λ v. map node_of v.items ≡ map node_of nodes.items ++ map node_of more.items) }
-{
-    let mut nodes = nodes;
-    extend(&mut nodes, more)?;
-    Ok(nodes)
 }
 
 // `hgatp` is 0.
