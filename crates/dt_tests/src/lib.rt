@@ -11,5 +11,3 @@ mod lists;
 mod models;
 #[cfg(test)]
 mod program;
-#[cfg(test)]
-mod texts;
