@@ -2,7 +2,7 @@
 //! `open S`, or `refused item I CAUSE`; of a text that is no log, which line or item is wrong, and why.
 //! `*N TEXT` in a case writes a long log.
 
-use crate::problems::problem;
+use crate::problems::problem_alone;
 use dt_bits::NoMemory;
 use dt_check::{Verdict, check_log};
 use dt_domain::Domain;
@@ -62,18 +62,38 @@ pub fn printed(alloc: Global, case: Case, out: &mut String) -> Result<(), NoMemo
     }
 }
 
+/// Writes what the checker says of the log, over the domain of this name.
+fn push_checked_over(
+    alloc: Global,
+    domain: &str,
+    problem: &Problem,
+    log: &Log,
+    out: &mut String,
+) -> Result<(), NoMemory> {
+    match domain {
+        "known" => push_checked::<Known>(alloc, problem, log, out),
+        "range" => push_checked::<Range>(alloc, problem, log, out),
+        "triple" => push_checked::<Triple>(alloc, problem, log, out),
+        _ => push_checked::<Pair>(alloc, problem, log, out),
+    }
+}
+
+/// The checker's answer over the domain of this name, on the log of the case and this problem.
+fn push_answer(
+    alloc: Global,
+    domain: &str,
+    problem: &Problem,
+    case: Case,
+    out: &mut String,
+) -> Result<(), NoMemory> {
+    match read_log(alloc, case.text("log").as_bytes()) {
+        Err(fault) => Ok(push_fault(out, fault)?),
+        Ok(log) => push_checked_over(alloc, domain, problem, &log, out),
+    }
+}
+
 /// The checker's answer over the domain of this name.
 pub fn answered(alloc: Global, domain: &str, case: Case, out: &mut String) -> Result<(), NoMemory> {
-    let mut ignored = String::new(alloc);
-    let problem = problem(alloc, case, &mut ignored)?;
-    let log = match read_log(alloc, case.text("log").as_bytes()) {
-        Ok(log) => log,
-        Err(fault) => return Ok(push_fault(out, fault)?),
-    };
-    match domain {
-        "known" => push_checked::<Known>(alloc, &problem, &log, out),
-        "range" => push_checked::<Range>(alloc, &problem, &log, out),
-        "triple" => push_checked::<Triple>(alloc, &problem, &log, out),
-        _ => push_checked::<Pair>(alloc, &problem, &log, out),
-    }
+    let problem = problem_alone(alloc, case)?;
+    push_answer(alloc, domain, &problem, case, out)
 }

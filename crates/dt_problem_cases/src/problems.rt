@@ -148,6 +148,12 @@ pub fn problem(alloc: Global, case: Case, out: &mut String) -> Result<Problem, N
     Ok(problem)
 }
 
+/// The problem of the case, without the answers.
+pub fn problem_alone(alloc: Global, case: Case) -> Result<Problem, NoMemory> {
+    let mut answers = String::new(alloc);
+    problem(alloc, case, &mut answers)
+}
+
 /// An answer for each line of the problem.
 pub fn answered(alloc: Global, case: Case, out: &mut String) -> Result<(), NoMemory> {
     problem(alloc, case, out)?;

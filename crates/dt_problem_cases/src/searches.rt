@@ -3,7 +3,7 @@
 //! the case has an aim, it is proposed; else nothing is.
 
 use crate::logs::{push_checked, push_text};
-use crate::problems::{problem, push_numbers};
+use crate::problems::{problem_alone, push_numbers};
 use dt_bits::NoMemory;
 use dt_domain::{Deciding, Domain};
 use dt_known::Known;
@@ -30,6 +30,19 @@ fn push_log<D: Domain>(
     push_checked::<D>(alloc, problem, log, out)
 }
 
+fn push_outcome<D: Domain>(
+    alloc: Global,
+    problem: &Problem,
+    outcome: &Outcome,
+    out: &mut String,
+) -> Result<(), NoMemory> {
+    match outcome {
+        Outcome::Found(numbers) => Ok(push_found(out, numbers)?),
+        Outcome::Refuted(log) => push_log::<D>(alloc, problem, log, out),
+        Outcome::Spent(log) => push_log::<D>(alloc, problem, log, out),
+    }
+}
+
 fn push_search<D: Deciding, P: Proposer<D>>(
     alloc: Global,
     problem: &Problem,
@@ -38,11 +51,8 @@ fn push_search<D: Deciding, P: Proposer<D>>(
     out: &mut String,
 ) -> Result<(), NoMemory> {
     let limit = case.words("limit").parse::<u64>().unwrap_or(0);
-    match search::<D, P>(alloc, problem, limit, proposer)? {
-        Outcome::Found(numbers) => Ok(push_found(out, &numbers)?),
-        Outcome::Refuted(log) => push_log::<D>(alloc, problem, &log, out),
-        Outcome::Spent(log) => push_log::<D>(alloc, problem, &log, out),
-    }
+    let outcome = search::<D, P>(alloc, problem, limit, proposer)?;
+    push_outcome::<D>(alloc, problem, &outcome, out)
 }
 
 fn push_answer<D: Deciding>(
@@ -61,13 +71,23 @@ fn push_answer<D: Deciding>(
     }
 }
 
+/// What a search of this problem answers over the domain of this name.
+fn push_answer_over(
+    alloc: Global,
+    domain: &str,
+    problem: &Problem,
+    case: Case,
+    out: &mut String,
+) -> Result<(), NoMemory> {
+    match domain {
+        "known" => push_answer::<Known>(alloc, problem, case, out),
+        "triple" => push_answer::<Triple>(alloc, problem, case, out),
+        _ => push_answer::<Pair>(alloc, problem, case, out),
+    }
+}
+
 /// What a search answers over the domain of this name.
 pub fn answered(alloc: Global, domain: &str, case: Case, out: &mut String) -> Result<(), NoMemory> {
-    let mut ignored = String::new(alloc);
-    let problem = problem(alloc, case, &mut ignored)?;
-    match domain {
-        "known" => push_answer::<Known>(alloc, &problem, case, out),
-        "triple" => push_answer::<Triple>(alloc, &problem, case, out),
-        _ => push_answer::<Pair>(alloc, &problem, case, out),
-    }
+    let problem = problem_alone(alloc, case)?;
+    push_answer_over(alloc, domain, &problem, case, out)
 }

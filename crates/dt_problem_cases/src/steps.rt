@@ -192,7 +192,7 @@ fn take_lines(
     cells: &mut Cells<Pair>,
     out: &mut String,
     lines: &str,
-) -> Result<(), AllocError>
+) -> Result<(), NoMemory>
     requires { AreCells pair_ops problem.now.terms cells.old }
 {
     for line in lines.lines() {
@@ -201,10 +201,19 @@ fn take_lines(
     Ok(())
 }
 
+/// An answer for each step of the case from the root cells of the problem.
+fn push_from_root(
+    alloc: Global,
+    problem: &Problem,
+    case: Case,
+    out: &mut String,
+) -> Result<(), NoMemory> {
+    let mut cells: Cells<Pair> = Cells::root(alloc, problem)?;
+    take_lines(alloc, problem, &mut cells, out, case.text("steps"))
+}
+
 /// An answer for each step from the root cells of the problem, after those for its lines.
 pub fn answered(alloc: Global, case: Case, out: &mut String) -> Result<(), NoMemory> {
     let problem = problem(alloc, case, out)?;
-    let mut cells: Cells<Pair> = Cells::root(alloc, &problem)?;
-    take_lines(alloc, &problem, &mut cells, out, case.text("steps"))?;
-    Ok(())
+    push_from_root(alloc, &problem, case, out)
 }

@@ -95,32 +95,79 @@ fn take_lines(
     Ok(())
 }
 
+/// Goes back to the length that the case says, where the trail is that long.
+fn undo(cells: &mut Cells<Pair>, trail: &mut Trail<Pair>, case: Case)
+    requires terms { All (λ change. change.0 < length cells.old) trail.old }
+{
+    let length = case.words("undo").parse::<u64>().unwrap_or(0);
+    if length <= trail.len() {
+        cells.undo(trail, length);
+    }
+}
+
+/// Writes whether the cells are the root cells, and how long the trail is.
+fn push_end(
+    root: &Cells<Pair>,
+    cells: &Cells<Pair>,
+    length: u64,
+    out: &mut String,
+) -> Result<(), NoMemory> {
+    let cells = if are_same(cells, root) {
+        "root cells"
+    } else {
+        "other cells"
+    };
+    Ok(writeln!(out, "{cells} {length}")?)
+}
+
+/// Takes the steps of the case and goes back, with an answer for each.
+fn go_and_undo(
+    alloc: Global,
+    problem: &Problem,
+    root: &Cells<Pair>,
+    cells: &mut Cells<Pair>,
+    trail: &mut Trail<Pair>,
+    case: Case,
+    out: &mut String,
+) -> Result<(), NoMemory>
+    requires cells { AreCells pair_ops problem.now.terms cells.old }
+    requires terms { All (λ change. change.0 < length problem.now.terms) trail.old }
+{
+    take_lines(alloc, problem, cells, trail, case.text("steps"), out)?;
+    undo(cells, trail, case);
+    push_end(root, cells, trail.len(), out)
+}
+
+/// The answers from these root cells on.
+fn push_from(
+    alloc: Global,
+    problem: &Problem,
+    root: &Cells<Pair>,
+    case: Case,
+    out: &mut String,
+) -> Result<(), NoMemory>
+    requires { AreCells pair_ops problem.now.terms root.now }
+{
+    let mut cells = root.copy(alloc)?;
+    let mut trail = Trail::new(alloc)?;
+    go_and_undo(alloc, problem, root, &mut cells, &mut trail, case, out)
+}
+
+/// The answers from the root cells of the problem on.
+fn push_from_root(
+    alloc: Global,
+    problem: &Problem,
+    case: Case,
+    out: &mut String,
+) -> Result<(), NoMemory> {
+    let root: Cells<Pair> = Cells::root(alloc, problem)?;
+    push_from(alloc, problem, &root, case, out)
+}
+
 /// An answer for each line, from the root cells of the problem, and what undoing gives.
 pub fn answered(alloc: Global, case: Case, out: &mut String) -> Result<(), NoMemory> {
     let problem = problem(alloc, case, out)?;
-    let root: Cells<Pair> = Cells::root(alloc, &problem)?;
-    let mut cells = root.copy(alloc)?;
-    let mut trail = Trail::new(alloc)?;
-    take_lines(
-        alloc,
-        &problem,
-        &mut cells,
-        &mut trail,
-        case.text("steps"),
-        out,
-    )?;
-    let length = case.words("undo").parse::<u64>().unwrap_or(0);
-    if length <= trail.len() {
-        cells.undo(&mut trail, length);
-    }
-    let same = are_same(&cells, &root);
-    writeln!(
-        out,
-        "{} {}",
-        if same { "root cells" } else { "other cells" },
-        trail.len()
-    )?;
-    Ok(())
+    push_from_root(alloc, &problem, case, out)
 }
 
 fn push_list(out: &mut String, users: &[u32]) -> Result<(), AllocError> {
@@ -131,7 +178,7 @@ fn push_list(out: &mut String, users: &[u32]) -> Result<(), AllocError> {
     out.push('\n')
 }
 
-fn push_users(problem: &Problem, watches: &Watches, out: &mut String) -> Result<(), AllocError>
+fn push_users(problem: &Problem, watches: &Watches, out: &mut String) -> Result<(), NoMemory>
     requires { watches.now ≡ watches_of problem.now.terms }
 {
     for term in 0..problem.terms.len() as u32 {
@@ -141,10 +188,13 @@ fn push_users(problem: &Problem, watches: &Watches, out: &mut String) -> Result<
     Ok(())
 }
 
+fn push_watches(alloc: Global, problem: &Problem, out: &mut String) -> Result<(), NoMemory> {
+    let watches = Watches::new(alloc, problem)?;
+    push_users(problem, &watches, out)
+}
+
 /// For each term of the problem the nodes that use it.
 pub fn users(alloc: Global, case: Case, out: &mut String) -> Result<(), NoMemory> {
     let problem = problem(alloc, case, out)?;
-    let watches = Watches::new(alloc, &problem)?;
-    push_users(&problem, &watches, out)?;
-    Ok(())
+    push_watches(alloc, &problem, out)
 }
