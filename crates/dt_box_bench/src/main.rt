@@ -128,35 +128,36 @@ fn tell_sizes(rt: &HostRuntime, problem: &mut Problem, solved: bool) -> Result<(
     Ok(())
 }
 
-/// Does the work on the problem and its root cells, and says whether 0 for each choice solves it.
-fn measure_cells(
+/// Finds who uses each term of the problem, and takes steps on its root cells.
+fn step(
     rt: &HostRuntime,
     shown: bool,
     count: u32,
     problem: &Problem,
     cells: &mut Cells<Pair>,
-) -> Result<bool, Stop>
+) -> Result<(), Stop>
     requires { AreCells pair_ops problem.now.terms cells.old }
 {
     watch(rt, shown, count, problem)?;
     keep(rt, shown, count, problem, cells)?;
-    sweep(rt, shown, problem, cells)?;
-    evaluate(rt, shown, count, problem)
+    sweep(rt, shown, problem, cells)
 }
 
-/// Does the work on the problem, and says whether 0 for each choice solves it.
-fn measure_root(rt: &HostRuntime, shown: bool, count: u32, problem: &Problem) -> Result<bool, Stop> {
+/// Makes the root cells of the problem, and does the work on them.
+fn measure_cells(rt: &HostRuntime, shown: bool, count: u32, problem: &Problem) -> Result<(), Stop> {
     let mut cells = root(rt, shown, count, problem)?;
-    measure_cells(rt, shown, count, problem, &mut cells)
+    step(rt, shown, count, problem, &mut cells)
 }
 
+/// Does all the work on the problem, which has this many terms.
 fn measure_problem(
     rt: &HostRuntime,
     shown: bool,
     count: u32,
     problem: &mut Problem,
 ) -> Result<(), Stop> {
-    let solved = measure_root(rt, shown, count, problem)?;
+    measure_cells(rt, shown, count, problem)?;
+    let solved = evaluate(rt, shown, count, problem)?;
     if shown {
         tell_sizes(rt, problem, solved)?;
     }
@@ -169,17 +170,11 @@ fn measure(rt: &HostRuntime, shown: bool, count: u32) -> Result<(), Stop> {
     measure_problem(rt, shown, count, &mut problem)
 }
 
-/// Does the moves so many times, each time on a copy of these cells, and prints what came of them.
-fn repeat_from(
-    rt: &HostRuntime,
-    problem: &Problem,
-    root: &Cells<Pair>,
-    moves: &[Move],
-    rounds: u32,
-) -> Result<(), Stop>
-    requires cells { AreCells pair_ops problem.now.terms root.now }
-    requires moves { All (IsMove problem.now.terms) moves.now }
+/// Does the moves so many times, each time on root cells, and prints what came of them.
+fn repeat(rt: &HostRuntime, problem: &Problem, moves: &[Move], rounds: u32) -> Result<(), Stop>
+    requires { All (IsMove problem.now.terms) moves.now }
 {
+    let root: Cells<Pair> = Cells::root(rt.alloc(), problem)?;
     let mut cells = root.copy(rt.alloc())?;
     let mut counts = Counts::none();
     for _round in 0..rounds {
@@ -189,30 +184,22 @@ fn repeat_from(
     print(rt, counts, digest(problem, &cells))
 }
 
-/// Does the moves so many times, each time on root cells, and prints what came of them.
-fn repeat(rt: &HostRuntime, problem: &Problem, moves: &[Move], rounds: u32) -> Result<(), Stop>
-    requires { All (IsMove problem.now.terms) moves.now }
-{
-    let root: Cells<Pair> = Cells::root(rt.alloc(), problem)?;
-    repeat_from(rt, problem, &root, moves, rounds)
-}
-
-/// Does the moves on this problem that a trace tells.
-fn do_moves(rt: &HostRuntime, problem: &Problem, text: &str, rounds: u32) -> Result<(), Stop> {
+/// Does the moves that the text tells on its problem, so many times, and prints what came of them.
+fn measure_moves(rt: &HostRuntime, problem: &Problem, text: &str, rounds: u32) -> Result<(), Stop> {
     let moves = moves_of(rt.alloc(), problem, text)?;
     repeat(rt, problem, moves.as_slice(), rounds)
 }
 
-/// Does the moves of a trace.
-fn do_trace(rt: &HostRuntime, text: &str, rounds: u32) -> Result<(), Stop> {
+/// Does the moves of the trace that is this text, so many times, and prints what came of them.
+fn measure_text(rt: &HostRuntime, text: &str, rounds: u32) -> Result<(), Stop> {
     let problem = problem_of(rt.alloc(), text)?;
-    do_moves(rt, &problem, text, rounds)
+    measure_moves(rt, &problem, text, rounds)
 }
 
 /// Does the moves of the trace in a file, so many times, and prints what came of them.
 fn measure_trace(rt: &HostRuntime, path: &str, rounds: u32) -> Result<(), Stop> {
     let text = fs::read_to_string(rt, path)?;
-    do_trace(rt, text.as_str(), rounds)
+    measure_text(rt, text.as_str(), rounds)
 }
 
 /// Prints how many moves changed a cell in which way, and the digest of the last cells.

@@ -16,10 +16,8 @@ const LOW_BYTE: Op = Op::Const {
     },
 };
 
-/// A problem of this many terms: first a mask, then a choice of 64 bits in every eight, and else the
-/// term before within the mask.
-pub fn built(alloc: Global, count: u32) -> Result<Problem, Stop> {
-    let mut problem = Problem::new(alloc)?;
+/// Adds the terms of a problem of this many.
+fn add_terms(problem: &mut Problem, count: u32) -> Result<(), Stop> {
     let mask = problem.add(LOW_BYTE, 0, 0, 0)?;
     let mut last = mask;
     for n in 1..count {
@@ -29,6 +27,14 @@ pub fn built(alloc: Global, count: u32) -> Result<Problem, Stop> {
             problem.add(Op::And, last, mask, 0)?
         };
     }
+    Ok(())
+}
+
+/// A problem of this many terms: first a mask, then a choice of 64 bits in every eight, and else the
+/// term before within the mask.
+pub fn built(alloc: Global, count: u32) -> Result<Problem, Stop> {
+    let mut problem = Problem::new(alloc)?;
+    add_terms(&mut problem, count)?;
     Ok(problem)
 }
 
@@ -66,14 +72,9 @@ pub fn kept(
     Ok(trail.len())
 }
 
-/// Whether these numbers of the choices solve the problem.
-fn solve(alloc: Global, problem: &Problem, numbers: &[u128]) -> Result<bool, Stop> {
-    let mut out = vec![in alloc; 0u128; problem.terms.len()]?;
-    Ok(problem.is_assignment(numbers) && problem.eval(numbers, &mut out))
-}
-
 /// Whether 0 for each choice solves the problem.
 pub fn evaluated(alloc: Global, problem: &Problem) -> Result<bool, Stop> {
-    let zeros = vec![in alloc; 0u128; problem.choice_count() as usize]?;
-    solve(alloc, problem, zeros.as_slice())
+    let values = vec![in alloc; 0u128; problem.choice_count() as usize]?;
+    let mut out = vec![in alloc; 0u128; problem.terms.len()]?;
+    Ok(problem.is_assignment(&values) && problem.eval(&values, &mut out))
 }

@@ -7,14 +7,14 @@ ghost use Rattle.dt_stage.specs.Stage.{shape_of, stage_nodes, GoesByLevels};
 ghost use Rattle.dt_sv39.specs.Shipped.{acts as named_node, entry_at as entry_of};
 ghost use Rattle.dt_sv39x4.specs.Shipped.{wide as widened, guest_nodes as shipped_guest, guest_stage, guest_a, guest_b, guest_c, guest_final, fetch2 as shipped_fetch2, fetch1 as shipped_fetch1, fetch0 as shipped_fetch0, virtual_stage, virtual_results, result_nodes as shipped_result_nodes, head as shipped_head};
 
-use crate::guest::{Guest, chained, guest_nodes};
+use crate::guest::{Guest, guest_nodes};
 use crate::names::{a_guest, b_guest, c_guest, g_guest, v_results, v_stage};
 use crate::permission::{Permission, level};
 use crate::positions::{ACCESS_FAULT, FINAL, G_PAGE, LED, PAGE_FAULT, STAGE, V_PAGE, V0, V1, V2};
 use crate::results::{Address, Exits, Results, result_nodes, wide};
 use dt_bits::NoMemory;
 use dt_model::{Act, Expr, Node};
-use dt_stage::{StagePlan, is, part, stage};
+use dt_stage::{StagePlan, chained, is, part, stage};
 use dt_sv39::{acts, decides, entry_at, is_sign_extended, va};
 use std::alloc::Global;
 

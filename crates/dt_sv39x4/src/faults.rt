@@ -3,10 +3,10 @@ ghost use Rattle.std.specs.Prelude.{◌≡◌, map, IfOk};
 ghost use Rattle.dt_model.specs.ModelData.{node_of};
 ghost use Rattle.dt_sv39x4.specs.Shipped.{guest_faults as shipped_guest_faults, faults as shipped_faults};
 
-use crate::guest::chained;
 use crate::positions::{ACCESS_FAULT, GUEST_FAULT, PAGE_FAULT};
 use dt_bits::NoMemory;
 use dt_model::Node;
+use dt_stage::chained;
 use dt_sv39::{KindCodes, KindNames, access_faults, by_kind, page_faults};
 use std::alloc::Global;
 

@@ -9,11 +9,10 @@ ghost use Rattle.dt_sv39x4.specs.Law.{WalksAsManual, IsLegalAsManual};
 use crate::choice::{choice, guest_pages, results, virtual_pages};
 use crate::entries::{final_nodes, head, led_nodes, virtual_nodes};
 use crate::faults::faults;
-use crate::guest::chained;
 use crate::vars::vars;
 use dt_bits::NoMemory;
 use dt_model::{Accepted, Expr, Model, Node};
-use dt_stage::{both, either, is, part};
+use dt_stage::{both, chained, either, is, part};
 use dt_sv39::{model_of, named};
 use std::alloc::Global;
 
