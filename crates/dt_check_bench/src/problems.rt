@@ -43,26 +43,38 @@ fn add_chains(problem: &mut Problem, size: Size) -> Result<(), Stop> {
     Ok(())
 }
 
-/// A problem that no assignment solves: a bit is to be 1 and to be 0.
-pub fn contradiction(alloc: Global, size: Size) -> Result<Problem, Stop> {
-    let mut problem = Problem::new(alloc)?;
+/// Adds the contradiction: a bit that is required to be 1 and to be 0.
+fn add_contradiction(problem: &mut Problem) -> Result<(), Stop> {
     let bit = problem.add_choice(Width(1))?;
     let not = problem.add(Op::Not, bit, 0, 0)?;
     let both = problem.add(Op::And, bit, not, 0)?;
     problem.add_choice(Width(1))?;
     problem.require(both)?;
+    Ok(())
+}
+
+/// A problem that no assignment solves: a bit is to be 1 and to be 0.
+pub fn contradiction(alloc: Global, size: Size) -> Result<Problem, Stop> {
+    let mut problem = Problem::new(alloc)?;
+    add_contradiction(&mut problem)?;
     add_chains(&mut problem, size)?;
     Ok(problem)
 }
 
-/// A problem that the least numbers don't solve: two bits of a number are to differ.
-pub fn difference(alloc: Global, size: Size) -> Result<Problem, Stop> {
-    let mut problem = Problem::new(alloc)?;
+/// Adds the difference: a number, of which two bits are required to differ.
+fn add_difference(problem: &mut Problem) -> Result<(), Stop> {
     let number = problem.add_choice(Width(4))?;
     let low = problem.add(Op::Slice { hi: 0, lo: 0 }, number, 0, 0)?;
     let high = problem.add(Op::Slice { hi: 1, lo: 1 }, number, 0, 0)?;
     let differ = problem.add(Op::Xor, low, high, 0)?;
     problem.require(differ)?;
+    Ok(())
+}
+
+/// A problem that the least numbers don't solve: two bits of a number are to differ.
+pub fn difference(alloc: Global, size: Size) -> Result<Problem, Stop> {
+    let mut problem = Problem::new(alloc)?;
+    add_difference(&mut problem)?;
     add_chains(&mut problem, size)?;
     Ok(problem)
 }
