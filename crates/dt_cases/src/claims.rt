@@ -55,12 +55,7 @@ fn answer_of_list(
 }
 
 /// The answer for a case of this model.
-fn answer_for(
-    alloc: Global,
-    case: Case,
-    out: &mut String,
-    model: &Accepted,
-) -> Result<(), Stop> {
+fn answer_for(alloc: Global, case: Case, out: &mut String, model: &Accepted) -> Result<(), Stop> {
     let list = list(alloc, model, case)?;
     answer_of_list(alloc, case, out, model, &list)
 }

@@ -87,12 +87,7 @@ fn measure_walks(
     tell(rt, &start, counts)
 }
 
-fn measure_image(
-    rt: &HostRuntime,
-    model: &Accepted,
-    image: &Image,
-    rounds: u32,
-) -> Result<(), Stop>
+fn measure_image(rt: &HostRuntime, model: &Accepted, image: &Image, rounds: u32) -> Result<(), Stop>
     requires { IsImage (accepted_data model.now) image.now }
 {
     let mut walker = Walker::new(rt.alloc(), model)?;
@@ -116,12 +111,7 @@ fn image_in(rt: &HostRuntime, model: &Accepted, path: &str) -> Result<Image, Sto
     image(rt, model, fs::read(rt, path)?.as_slice())
 }
 
-fn measure_model(
-    rt: &HostRuntime,
-    model: &Accepted,
-    path: &str,
-    rounds: u32,
-) -> Result<(), Stop> {
+fn measure_model(rt: &HostRuntime, model: &Accepted, path: &str, rounds: u32) -> Result<(), Stop> {
     let image = image_in(rt, model, path)?;
     measure_image(rt, model, &image, rounds)
 }
